@@ -1,0 +1,6 @@
+pub mod Named
+pub mod Runs
+pub mod Sorted
+pub mod Tables
+pub mod Truth
+pub mod formers
