@@ -1,7 +1,11 @@
+pub mod AgreeLemmas
+pub mod Answered
 pub mod CountLemmas
 pub mod Decided
 pub mod MoreCopies
+pub mod PlaceLemmas
 pub mod Rows
+pub mod SortedLemmas
 pub mod TableLemmas
 pub mod ValueLemmas
 pub mod Zips

@@ -1,3 +1,4 @@
+pub mod Agreeing
 pub mod Named
 pub mod Runs
 pub mod Sorted

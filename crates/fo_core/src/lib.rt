@@ -4,16 +4,27 @@
 
 mod boxed;
 mod copy;
+mod depth;
 mod fits;
+mod laws;
 mod names;
 mod seq;
+mod sorted;
 mod syntax;
 mod text;
+mod value;
 mod world;
 
 pub use boxed::Boxed;
+pub use laws::{
+    safe_where_no_reachable_state_violates, terms_read_bound_values, truth_is_decided,
+    truth_reads_named_copies,
+};
 pub use names::Names;
 pub use seq::Seq;
 pub use syntax::{Formula, Sig, Step, Symbol, System, Term};
 pub use text::Text;
 pub use world::{Table, World};
+
+#[cfg(test)]
+mod tests;
