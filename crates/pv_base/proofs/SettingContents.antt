@@ -10,17 +10,21 @@ use Rattle.std.proofs.lemmas.Slice.Eq.{bytes_eq-Decides}
 use Rattle.std.specs.List.{find, position, position_or_len}
 use Rattle.std.specs.Option.{option_map, option_or}
 use Rattle.std.specs.Str.{bytes_eq}
-use Rattle.pv_base.specs.Entries.{NamedContent, content_of, SetsContent}
+use Rattle.pv_base.specs.Entries.{NamedContent, SetsContent}
 
+-- whether an entry has this name
 abbrev is_named : List ℕ → NamedContent → Bool
 is_named name e = bytes_eq e.name name
 
+-- bytes that the test finds equal are equal
 equal : (a b : List ℕ) → bytes_eq a b ≡ true → a ≡ b
 equal a b e = (bytes_eq-Decides a b).0 e
 
+-- the test finds bytes equal to themselves
 bytes_eq-same : (a : List ℕ) → bytes_eq a a ≡ true
 bytes_eq-same a = (bytes_eq-Decides a a).1 refl
 
+-- the test tells different bytes apart
 bytes_eq-other : (a b : List ℕ) → a ≢ b → bytes_eq a b ≡ false
 bytes_eq-other a b differs = false_from_ne_true (bytes_eq a b) (λ e. differs (equal a b e))
 
@@ -40,6 +44,7 @@ SetsContent-set name bytes es i at =
           (bytes_eq-other name n (λ e. other (sym e))));
     }
 
+-- nothing to fall back on changes nothing
 option_or-None : {A : Type 0} (o : Option A) → option_or o None ≡ o
 option_or-None None = refl
 option_or-None (Some x) = refl

@@ -1,5 +1,3 @@
-ghost use Rattle.std.specs.Prelude.{◌≡◌, IfOk, vec_len};
-
 use super::*;
 use std::alloc::{AllocError, Global};
 use std::test::Fail;
@@ -25,10 +23,8 @@ fn is_too_long<F: Files>(files: &mut F, alloc: Global, name: &str, bytes: &[u8])
     matches!(answer, Err(ReadFault::TooLong)) && into.as_slice() == bytes
 }
 
-/// This many bytes, no two pieces of which are alike.
-fn counted(alloc: Global, length: usize) -> Result<Vec<u8>, AllocError>
-    ensures { IfOk result (λ bytes. vec_len bytes ≡ length) }
-{
+/// This many bytes. Fewer of them are a prefix of more of them.
+fn counted(alloc: Global, length: usize) -> Result<Vec<u8>, AllocError> {
     let mut bytes = vec![in alloc; 0; length]?;
     for (place, byte) in bytes.iter_mut().enumerate() {
         *byte = (place % 251) as u8;
@@ -46,37 +42,44 @@ fn a_span_is_compared_by_its_places(rt: HostRuntime) {
 #[test]
 fn files_in_memory_fail_where_they_are_told_to(rt: HostRuntime) -> Result<(), Fail> {
     let alloc = rt.alloc();
-    let long = counted(alloc, 1_048_578)?;
     let mut files = MemFiles::new(alloc)?;
     files.add("model", b"first")?;
     files.add("report", b"xyz")?;
-    files.add("long", &long[..1_048_577])?;
-    files.add("longest", &long)?;
-    files.add("most", &long[..1_048_576])?;
     files.add("model", b"second")?;
     files.fail_at(1)?;
-    files.fail_at(3)?;
     assert!(rt; gives(&mut files, alloc, "model", b"second"));
     assert!(rt; fails(&mut files, alloc, "report"));
     assert!(rt; gives(&mut files, alloc, "report", b"xyz"));
-    assert!(rt; is_too_long(&mut files, alloc, "long", &long[..1_048_577]));
-    assert!(rt; is_too_long(&mut files, alloc, "longest", &long[..1_048_577]));
-    assert!(rt; gives(&mut files, alloc, "most", &long[..1_048_576]));
     assert!(rt; fails(&mut files, alloc, "modem"));
+    Ok(())
+}
+
+#[test]
+fn a_long_file_is_too_long_also_where_its_read_is_to_fail(rt: HostRuntime) -> Result<(), Fail> {
+    let alloc = rt.alloc();
+    let past = counted(alloc, 1_048_577)?;
+    let mut files = MemFiles::new(alloc)?;
+    files.add("past", &past)?;
+    files.add("longer", &counted(alloc, 1_048_578)?)?;
+    files.fail_at(1)?;
+    assert!(rt; is_too_long(&mut files, alloc, "past", &past));
+    assert!(rt; is_too_long(&mut files, alloc, "longer", &past));
+    let most = counted(alloc, 1_048_576)?;
+    files.add("past", &most)?;
+    assert!(rt; gives(&mut files, alloc, "past", &most));
     Ok(())
 }
 
 #[test]
 fn good_files_never_fail(rt: HostRuntime) -> Result<(), Fail> {
     let alloc = rt.alloc();
-    let long = counted(alloc, 1_048_578)?;
     let mut files = GoodFiles::new(alloc)?;
     files.add("model", b"first")?;
     files.add("model", b"second")?;
-    files.add("long", &long)?;
+    files.add("longer", &counted(alloc, 1_048_578)?)?;
     assert!(rt; gives(&mut files, alloc, "model", b"second"));
     assert!(rt; gives(&mut files, alloc, "report", b""));
-    assert!(rt; is_too_long(&mut files, alloc, "long", &long[..1_048_577]));
+    assert!(rt; is_too_long(&mut files, alloc, "longer", &counted(alloc, 1_048_577)?));
     Ok(())
 }
 
@@ -106,7 +109,6 @@ fn a_good_sink_takes_all(rt: HostRuntime) {
 #[test]
 fn the_real_ones_read_and_write(rt: HostRuntime) -> Result<(), Fail> {
     let alloc = rt.alloc();
-    let long = counted(alloc, 1_048_578)?;
     let folder = env::temp_dir(&rt)?;
     let name = format!(in alloc;
         "{}/pv_base-{}",
@@ -115,20 +117,16 @@ fn the_real_ones_read_and_write(rt: HostRuntime) -> Result<(), Fail> {
     )?;
     let mut files = RealFiles::new(&rt);
     let missing = fails(&mut files, alloc, &name);
-    let mut read = true;
+    let mut whole = true;
     for length in [0, 1, 4096, 4097, 1_048_576] {
-        assert!(rt; length <= long.len());
-        fs::write(&rt, &name, &long[..length])?;
-        read = read && gives(&mut files, alloc, &name, &long[..length]);
+        let bytes = counted(alloc, length)?;
+        fs::write(&rt, &name, &bytes)?;
+        whole = whole && gives(&mut files, alloc, &name, &bytes);
     }
-    for length in [1_048_577, 1_048_578] {
-        assert!(rt; length <= long.len());
-        fs::write(&rt, &name, &long[..length])?;
-        read = read && is_too_long(&mut files, alloc, &name, &long[..1_048_577]);
-    }
+    fs::write(&rt, &name, &counted(alloc, 1_048_578)?)?;
+    let long = is_too_long(&mut files, alloc, &name, &counted(alloc, 1_048_577)?);
     fs::remove_file(&rt, &name)?;
-    assert!(rt; missing);
-    assert!(rt; read);
+    assert!(rt; missing && whole && long);
     assert!(rt;
         RealOut::new(rt.stdout())
             .put(b"to standard output\n")

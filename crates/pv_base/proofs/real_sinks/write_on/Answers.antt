@@ -1,5 +1,5 @@
 -- One more write went out.
-use Rattle.std.proofs.Common.{rules, ◌+◌, ◌-◌, ◌≤◌, drop, take, length, arith}
+use Rattle.std.proofs.Common.{rules, ◌+◌, ◌-◌, ◌≤◌, drop, length, arith}
 use Rattle.std.proofs.Math.Seq.{take-add}
 use Rattle.std.proofs.lemmas.List.{take-take}
 use Rattle.std.proofs.KnownBytes.{Appends-trans}
