@@ -2,7 +2,8 @@
 use Rattle.std.specs.Prelude.{◌≡◌, ◌≤◌, ◌+◌, ◌/◌, ◌⊎◌, ◌++◌, ℕ, List, Result, Ok, Err, length, take, Contains}
 use Rattle.pv_base.specs.declared.sink.Failed.{Failed}
 
--- the bytes that went in, the room for them, the numbers of the puts that are to fail, and how many puts there were and failed
+-- the bytes that went in and the room for them, the numbers of the puts that are to fail, and how many puts there were
+-- and how many failed
 pub record SinkInMemory : Type 0 where
   pub bytes : List ℕ
   pub room : ℕ
@@ -26,4 +27,5 @@ first_half bytes = take (length bytes / 2) bytes
 abbrev pub IsPut : SinkInMemory → List ℕ → Result (Unit {0}) Failed → List ℕ → Type 0
 IsPut sink bytes (Ok _) after = Fits sink bytes × (¬ IsToFail sink) × (after ≡ sink.bytes ++ bytes)
 IsPut sink bytes (Err _) after =
-    ((¬ Fits sink bytes) × (after ≡ sink.bytes)) ⊎ (Fits sink bytes × IsToFail sink × (after ≡ sink.bytes ++ first_half bytes))
+    ((¬ Fits sink bytes) × (after ≡ sink.bytes))
+    ⊎ (Fits sink bytes × IsToFail sink × (after ≡ sink.bytes ++ first_half bytes))

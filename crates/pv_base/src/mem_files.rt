@@ -29,7 +29,12 @@ impl Model for MemFiles {
 
     ghost Value = { FilesInMemory };
 
-    ghost view = { λ f. record { entries = f.entries.items; failing = f.failing.items; calls = f.calls; noted = f.account } };
+    ghost view = { λ f. record {
+      entries = f.entries.items;
+      failing = f.failing.items;
+      calls = f.calls;
+      noted = f.account;
+    } };
 }
 
 impl MemFiles {
@@ -75,7 +80,9 @@ impl MemFiles {
     fn answer(&self, call: u64, name: &str, into: &mut Vec<u8>) -> Result<(), ReadFault>
         requires { into.old.items ≡ [] }
         ensures read { IsRead (content_of self.now.entries name.now) result into.new.items }
-        ensures cause { HasCause (content_of self.now.entries name.now) (Contains self.now.failing call) result }
+        ensures cause { HasCause (content_of self.now.entries name.now)
+            (Contains self.now.failing call)
+            result }
     {
         let content = look_up(&self.entries, name).ok_or(ReadFault::Failed)?;
         if content.len() <= LIMIT && self.failing.contains(&call) {
@@ -101,9 +108,14 @@ impl Files for MemFiles {
         ensures refused { self.new.noted.refused ≡ refused_by name.now result }
 
         // Beyond what each implementation says: which answer comes, and what is kept.
-        ensures cause { HasCause (content_of self.old.entries name.now) (Contains self.old.failing self.old.calls) result }
+        ensures cause { HasCause (content_of self.old.entries name.now)
+            (Contains self.old.failing self.old.calls)
+            result }
         ensures counted { self.new.noted.faults ≡ faults_after self.old.noted.faults result }
-        ensures kept { self.new ≡ record self.old { calls = raised self.old.calls; noted = self.new.noted } }
+        ensures kept { self.new ≡ record self.old {
+          calls = raised self.old.calls;
+          noted = self.new.noted;
+        } }
     {
         self.account.begin();
         let call = self.calls.get();

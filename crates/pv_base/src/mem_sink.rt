@@ -27,7 +27,13 @@ impl Model for MemSink {
 
     ghost Value = { SinkInMemory };
 
-    ghost view = { λ s. record { bytes = take s.used s.room.items; room = length s.room.items; failing = s.failing.items; calls = s.calls; faults = s.faults } };
+    ghost view = { λ s. record {
+      bytes = take s.used s.room.items;
+      room = length s.room.items;
+      failing = s.failing.items;
+      calls = s.calls;
+      faults = s.faults;
+    } };
 
     ghost invariant = { λ s. s.used ≤ length s.room.items };
 }
@@ -35,7 +41,13 @@ impl Model for MemSink {
 impl MemSink {
     /// An empty sink that has room for this many bytes, and of which no put is to fail.
     pub fn new(alloc: Global, room: usize) -> Result<MemSink, AllocError>
-        ensures { IfOk result (λ sink. sink ≡ record { bytes = []; room = room; failing = []; calls = 0; faults = 0 }) }
+        ensures { IfOk result (λ sink. sink ≡ record {
+          bytes = [];
+          room = room;
+          failing = [];
+          calls = 0;
+          faults = 0;
+        }) }
     {
         Ok(MemSink {
             room: vec![in alloc; 0; room]?,

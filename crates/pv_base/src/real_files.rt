@@ -42,7 +42,8 @@ fn fill<S: Read>(source: &mut S, into: &mut Vec<u8>) -> Result<(), ReadFault>
     requires { into.old.items ≡ [] }
     ensures read { IsRead None result into.new.items }
     ensures whole { OnOk result (IfSome (S.remaining source.old) (λ content. into.new.items ≡ content)) }
-    ensures long { IsErrOf result ReadFault.TooLong → Consumes (S.remaining source.old) (S.remaining source.new) into.new.items }
+    ensures long { IsErrOf result ReadFault.TooLong
+        → Consumes (S.remaining source.old) (S.remaining source.new) into.new.items }
 {
     let mut piece = [0; 4096];
     'each: while into.len() <= LIMIT {

@@ -8,7 +8,8 @@ use std::io::Write;
 use std::marker::Model;
 use std::rt::{Stderr, Stdout};
 
-// Writes until all bytes went out or a write fails, and answers how many went out. A write that takes nothing fails.
+// Writes until all bytes went out or a write fails, and answers how many went out. A write that takes
+// nothing of a piece that is not empty is a fault.
 fn write_on<W: Write>(writer: &mut W, bytes: &[u8]) -> usize
     ensures within { result ≤ length bytes.now }
     ensures bytes { Appends (W.contents writer.old) (W.contents writer.new) (take result bytes.now) }
@@ -26,7 +27,8 @@ fn write_on<W: Write>(writer: &mut W, bytes: &[u8]) -> usize
 // Writes all bytes, or counts a fault.
 fn put_counted<W: Write>(writer: &mut W, faults: &mut Counter, bytes: &[u8]) -> Result<(), Failed>
     ensures whole { OnOk result (Appends (W.contents writer.old) (W.contents writer.new) bytes.now) }
-    ensures prefix { OnErr result ((n : ℕ) × Appends (W.contents writer.old) (W.contents writer.new) (take n bytes.now)) }
+    ensures prefix { OnErr result ((n : ℕ)
+        × Appends (W.contents writer.old) (W.contents writer.new) (take n bytes.now)) }
     ensures counted { faults.new ≡ faults_after faults.old result }
     ensures later { faults.old ≤ faults.new }
 {
