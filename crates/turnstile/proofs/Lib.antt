@@ -1,0 +1,3 @@
+mod Numbers
+mod Histories
+pub mod Keeps
