@@ -4,10 +4,20 @@ use Rattle.std.proofs.lemmas.List.{append-nil, length-append}
 use Rattle.std.specs.List.{All}
 use Rattle.std.proofs.lemmas.List.Elements.{All-append, All-nil, All-cons, filter-append}
 use mathlib.Core.Logic.{dite}
+use mathlib.Core.List.{append_assoc}
 use native.Mathlib.Decide.{dec_le}
 use Rattle.turnstile.specs.History.{entries_of, IsPrefixOf, Continues, AddsAtMostOne, longer}
 
 module _ {E : Type 0} where
+  pub IsPrefixOf-refl : (xs : List E) → IsPrefixOf xs xs
+  IsPrefixOf-refl xs = ([], sym (append-nil xs))
+
+  pub IsPrefixOf-trans : (xs ys zs : List E) → IsPrefixOf xs ys → IsPrefixOf ys zs → IsPrefixOf xs zs
+  IsPrefixOf-trans xs ys zs p q = (p.0 ++ q.0, q.1 ∙ (ap (λ l. l ++ q.0) p.1 ∙ append_assoc xs p.0 q.0))
+
+  pub entries_of-append : (number : E → ℕ) (k : ℕ) (xs ys : List E) → entries_of number k (xs ++ ys) ≡ entries_of number k xs ++ entries_of number k ys
+  entries_of-append number k xs ys = filter-append (λ e. nat_eq (number e) k) xs ys
+
   -- a list of no elements
   nothing : (xs : List E) → length xs ≡ 0 → xs ≡ []
   nothing [] e = refl
@@ -30,9 +40,9 @@ module _ {E : Type 0} (number : E → ℕ) where
   still log xs ys k p q le whole =
       let t = nested xs p.0 ys q.0 (sym p.1 ∙ q.1) le in
       let F : List E → List E = entries_of number k in
-      let a : F log ≡ F xs ++ F p.0 = ap F p.1 ∙ filter-append (λ d. nat_eq (number d) k) xs p.0 in
-      let b : F p.0 ≡ F t.0 ++ F q.0 = ap F t.2 ∙ filter-append (λ d. nat_eq (number d) k) t.0 q.0 in
-      let c : F log ≡ F ys ++ F q.0 = ap F q.1 ∙ filter-append (λ d. nat_eq (number d) k) ys q.0 in
+      let a : F log ≡ F xs ++ F p.0 = ap F p.1 ∙ entries_of-append number k xs p.0 in
+      let b : F p.0 ≡ F t.0 ++ F q.0 = ap F t.2 ∙ entries_of-append number k t.0 q.0 in
+      let c : F log ≡ F ys ++ F q.0 = ap F q.1 ∙ entries_of-append number k ys q.0 in
       let la : length (F xs) ≡ length (F xs) + length (F p.0) = ap length (sym whole ∙ a) ∙ length-append (F xs) (F p.0) in
       let lb : length (F p.0) ≡ length (F t.0) + length (F q.0) = ap length b ∙ length-append (F t.0) (F q.0) in
       c ∙ (ap (λ (zs : List E). F ys ++ zs) (nothing (F q.0) (omega arith)) ∙ append-nil (F ys))
@@ -50,7 +60,7 @@ module _ {E : Type 0} (number : E → ℕ) where
   longest log xs ys p q = dite (dec_le (length ys) (length xs))
       (λ le. let t = nested ys q.0 xs p.0 (sym q.1 ∙ p.1) le in rw (le-ltb (length xs) (length ys) le) record {
         begins = p;
-        first = ([], sym (append-nil xs));
+        first = IsPrefixOf-refl xs;
         second = (t.0, t.1);
         keeps_first = λ k h. h;
         keeps_second = λ k h. still log ys xs k q p le h;
@@ -58,7 +68,7 @@ module _ {E : Type 0} (number : E → ℕ) where
       (λ no. let le : length xs ≤ length ys = omega arith in let t = nested xs p.0 ys q.0 (sym p.1 ∙ q.1) le in rw (lt-ltb (length xs) (length ys) (omega arith)) record {
         begins = q;
         first = (t.0, t.1);
-        second = ([], sym (append-nil ys));
+        second = IsPrefixOf-refl ys;
         keeps_first = λ k h. still log xs ys k p q le h;
         keeps_second = λ k h. h;
       })
@@ -73,7 +83,7 @@ module _ {E : Type 0} (number : E → ℕ) where
 
   -- an entry of another number
   another : (k : ℕ) (log : List E) (e : E) → number e ≢ k → entries_of number k (log ++ e ∷ []) ≡ entries_of number k log
-  another k log e ne = filter-append (λ d. nat_eq (number d) k) log (e ∷ []) ∙ (ap (λ b. entries_of number k log ++ (if b then e ∷ [] else [])) (ne_eqb (number e) k ne) ∙ append-nil (entries_of number k log))
+  another k log e ne = entries_of-append number k log (e ∷ []) ∙ (ap (λ b. entries_of number k log ++ (if b then e ∷ [] else [])) (ne_eqb (number e) k ne) ∙ append-nil (entries_of number k log))
 
   -- what a visit adds
   pub record Adds (from to : ℕ) (old new : List E) : Type 0 where

@@ -6,7 +6,6 @@ use Rattle.std.specs.List.{All}
 use Rattle.std.proofs.lemmas.List.Elements.{All-nil, All-cons, All-head, All-tail}
 use mathlib.Core.Option.{none, some, some-ne-none, some-injective}
 use mathlib.Core.Logic.{dite}
-use mathlib.Core.List.{append_assoc}
 use native.Mathlib.Decide.{ℕ_discrete, dec_le}
 use lib.ListN.{get_elem?}
 use lib.Seq.{set-get_or}
@@ -19,7 +18,7 @@ use Rattle.turnstile.specs.History.{entries_of, Continues, AddsAtMostOne, longer
 use Rattle.turnstile.specs.Rule.{fresh, Knows, Kept}
 use Rattle.turnstile.specs.Plays.{entered, left, below, above, joined, part_of, spent, Finds, IsJoined, won, counted, given, learned}
 use Rattle.turnstile.proofs.Numbers.{moved, moved_in, moved_out, outside_of, touched, first_of}
-use Rattle.turnstile.proofs.Histories.{adds, longest, goes_on_both}
+use Rattle.turnstile.proofs.Histories.{adds, longest, goes_on_both, IsPrefixOf-refl, IsPrefixOf-trans}
 
 -- a place that has an element is below the length
 in_range : {X : Type 0} (xs : List X) (i : ℕ) (x : X) → get_elem? xs i ≡ some x → i < length xs
@@ -182,7 +181,7 @@ module _ {S B E : Type 0} (base : S → B) (history : S → List E) (number : E 
             same = q.same;
             within = q.within;
             goes_on = record {
-              begins = ([], sym (append-nil (history x)));
+              begins = IsPrefixOf-refl (history x);
               own = λ m _ _. refl;
             };
             parts = no_parts (history x);
@@ -192,7 +191,7 @@ module _ {S B E : Type 0} (base : S → B) (history : S → List E) (number : E 
             same = p.same;
             within = p.within;
             goes_on = record {
-              begins = (p.goes_on.begins.0 ++ add.more, add.is ∙ (ap (λ ys. ys ++ add.more) (mine.2 ∙ p.goes_on.begins.1) ∙ append_assoc d.seen p.goes_on.begins.0 add.more));
+              begins = IsPrefixOf-trans d.seen r.log (history x) p.goes_on.begins (add.more, add.is ∙ ap (λ ys. ys ++ add.more) mine.2);
               own = λ m a b. add.other m (λ n c e is'. other (sym (p.owns m a b) ∙ (ap r.owner (sym is') ∙ q.owns n c e))) ∙ (ap (entries_of number m) mine.2 ∙ p.goes_on.own m a b);
             };
             parts = p.parts;

@@ -1,3 +1,3 @@
 mod Numbers
-mod Histories
+pub mod Histories
 pub mod Keeps
