@@ -5,6 +5,8 @@ pub mod Decided
 pub mod MoreCopies
 pub mod PlaceLemmas
 pub mod Rows
+pub mod ShiftRows
+pub mod ShiftTruth
 pub mod SortedLemmas
 pub mod TableLemmas
 pub mod ValueLemmas

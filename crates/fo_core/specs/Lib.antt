@@ -1,7 +1,12 @@
 pub mod Agreeing
 pub mod Named
+pub mod Queries
+pub mod Rising
 pub mod Runs
+pub mod Shift
+pub mod Skolems
 pub mod Sorted
 pub mod Tables
 pub mod Truth
+pub mod Weights
 pub mod formers

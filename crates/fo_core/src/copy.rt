@@ -2,6 +2,7 @@ ghost use Rattle.std.specs.Prelude.{◌≡◌, IfOk};
 
 use crate::boxed::Boxed;
 use crate::names::Names;
+use crate::query::Query;
 use crate::seq::Seq;
 use crate::syntax::{Formula, Sig, Step, Symbol, System, Term};
 use crate::text::Text;
@@ -187,6 +188,18 @@ impl System {
             steps: steps(alloc, self.steps.as_slice())?,
             safeties: formulas(alloc, self.safeties.as_slice())?,
             invariants: formulas(alloc, self.invariants.as_slice())?,
+        })
+    }
+}
+
+impl Query {
+    /// A copy.
+    pub fn copy(&self, alloc: Global) -> Result<Query, AllocError>
+        ensures { IfOk result (λ x. x ≡ self.now) }
+    {
+        Ok(Query {
+            copies: self.copies,
+            claims: formulas(alloc, self.claims.as_slice())?,
         })
     }
 }

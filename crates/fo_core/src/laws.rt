@@ -1,6 +1,6 @@
 //! Laws about the definitions, each the contract of a function that does nothing.
 
-ghost use Rattle.std.specs.Prelude.{◌≡◌, ◌⊎◌, ◌↔◌, ◌++◌, ℕ, List, [], length};
+ghost use Rattle.std.specs.Prelude.{◌≡◌, ◌⊎◌, ◌↔◌, ◌++◌, ◌+◌, ℕ, List, [], length};
 ghost use Rattle.fo_core.specs.declared.syntax.Sig.{Sig};
 ghost use Rattle.fo_core.specs.declared.syntax.Term.{Term};
 ghost use Rattle.fo_core.specs.declared.syntax.Formula.{Formula};
@@ -10,6 +10,7 @@ ghost use Rattle.fo_core.specs.Truth.{Truth, value};
 ghost use Rattle.fo_core.specs.Sorted.{IsTerm, IsFormula, IsSystem};
 ghost use Rattle.fo_core.specs.Runs.{IsSafe, Reach, Violates};
 ghost use Rattle.fo_core.specs.Agreeing.{Agree};
+ghost use Rattle.fo_core.specs.Shift.{shift};
 
 /// In a finite world each formula is true or it is not, under any values.
 pub fn truth_is_decided()
@@ -30,4 +31,9 @@ pub fn terms_read_bound_values()
 /// A system is safe exactly where no reachable state violates a safety.
 pub fn safe_where_no_reachable_state_violates()
     ensures { (sys : System) → IsSystem sys → IsSafe sys ↔ ((k : ℕ) (s : World) → Reach sys k s → ¬ Violates sys s 0) }
+{}
+
+/// A shifted formula is true where the formula is true that many copies on.
+pub fn shifted_moves_copies()
+    ensures { (sig : Sig) (w : World) (c by : ℕ) (f : Formula) (vs : List ℕ) → Truth sig w c (shift sig by f) vs ↔ Truth sig w (c + by) f vs }
 {}

@@ -8,7 +8,9 @@ mod depth;
 mod fits;
 mod laws;
 mod names;
+mod query;
 mod seq;
+mod shift;
 mod sorted;
 mod syntax;
 mod text;
@@ -17,14 +19,18 @@ mod world;
 
 pub use boxed::Boxed;
 pub use laws::{
-    safe_where_no_reachable_state_violates, terms_read_bound_values, truth_is_decided,
-    truth_reads_named_copies,
+    safe_where_no_reachable_state_violates, shifted_moves_copies, terms_read_bound_values,
+    truth_is_decided, truth_reads_named_copies,
 };
 pub use names::Names;
+pub use query::Query;
 pub use seq::Seq;
+pub use shift::shifted;
 pub use syntax::{Formula, Sig, Step, Symbol, System, Term};
 pub use text::Text;
 pub use world::{Table, World};
 
+#[cfg(test)]
+mod shift_tests;
 #[cfg(test)]
 mod tests;
