@@ -2,6 +2,7 @@ pub mod AgreeLemmas
 pub mod Answered
 pub mod CountLemmas
 pub mod Decided
+pub mod EdgeRows
 pub mod MoreCopies
 pub mod PlaceLemmas
 pub mod Rows

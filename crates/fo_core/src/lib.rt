@@ -8,6 +8,7 @@ mod depth;
 mod fits;
 mod laws;
 mod names;
+mod order;
 mod seq;
 mod sorted;
 mod syntax;
@@ -21,6 +22,7 @@ pub use laws::{
     truth_reads_named_copies,
 };
 pub use names::Names;
+pub use order::{Order, Purpose};
 pub use seq::Seq;
 pub use syntax::{Formula, Sig, Step, Symbol, System, Term};
 pub use text::Text;
