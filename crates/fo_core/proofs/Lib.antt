@@ -2,9 +2,11 @@ pub mod AgreeLemmas
 pub mod Answered
 pub mod CountLemmas
 pub mod Decided
+pub mod EdgeRows
 pub mod MoreCopies
 pub mod PlaceLemmas
 pub mod Rows
+pub mod ShiftEdges
 pub mod ShiftRows
 pub mod ShiftTruth
 pub mod SortedLemmas

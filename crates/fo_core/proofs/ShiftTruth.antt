@@ -14,19 +14,19 @@ use Rattle.fo_core.specs.Shift.{moved, shift_term, shift_terms, shift, shift_row
 use Rattle.std.proofs.lemmas.List.Elements.{All-nil, All-cons, All-head, All-tail}
 use Rattle.fo_core.proofs.Rows.{value-App, truth-Not, truth-And, truth-Or, truth-All, truth-Ex}
 
-either_way : {P Q R S : Type 0} → (P → Q) → (R → S) → P ⊎ R → Q ⊎ S
+pub either_way : {P Q R S : Type 0} → (P → Q) → (R → S) → P ⊎ R → Q ⊎ S
 either_way h k (inl p) = inl (h p)
 either_way h k (inr p) = inr (k p)
 
 module _ {X : Type 0} (P : X → Type 0) (x : X) (xs : List X) where
-  any_cases : Any P (x ∷ xs) → P x ⊎ Any P xs
+  pub any_cases : Any P (x ∷ xs) → P x ⊎ Any P xs
   any_cases h = at h.0 h.1 h.2 h.3 h.4
     where
       at : (k : ℕ) (y : X) → k < length (x ∷ xs) → get_or (x ∷ xs) k y ≡ y → P y → P x ⊎ Any P xs
       at zero y lt e p = inl (subst P (sym e) p)
       at (suc k) y lt e p = inr (k, y, omega arith, e, p)
 
-  any_made : P x ⊎ Any P xs → Any P (x ∷ xs)
+  pub any_made : P x ⊎ Any P xs → Any P (x ∷ xs)
   any_made (inl p) = (0, x, omega arith, refl, p)
   any_made (inr a) = (suc a.0, a.1, omega (arith, a.2), a.3, a.4)
 

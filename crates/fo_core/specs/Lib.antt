@@ -1,10 +1,10 @@
 pub mod Agreeing
 pub mod Named
 pub mod Queries
-pub mod Rising
 pub mod Runs
 pub mod Shift
 pub mod Skolems
+pub mod SortGraph
 pub mod Sorted
 pub mod Tables
 pub mod Truth

@@ -8,6 +8,7 @@ mod depth;
 mod fits;
 mod laws;
 mod names;
+mod order;
 mod query;
 mod seq;
 mod shift;
@@ -23,6 +24,7 @@ pub use laws::{
     truth_is_decided, truth_reads_named_copies,
 };
 pub use names::Names;
+pub use order::{Order, Purpose};
 pub use query::Query;
 pub use seq::Seq;
 pub use shift::shifted;

@@ -1,8 +1,9 @@
-ghost use Rattle.std.specs.Prelude.{◌≡◌, ◌↔◌, ◌+◌, ◌<◌, ◌^◌, ℕ, List, true, length, map, IfOk};
+ghost use Rattle.std.specs.Prelude.{◌≡◌, ◌↔◌, ◌+◌, ◌<◌, ◌^◌, ℕ, List, Bool, true, length, map, IfOk};
 ghost use Rattle.std.specs.List.{All};
 ghost use Rattle.fo_core.specs.declared.world.World.{World};
 ghost use Rattle.fo_core.specs.Tables.{symbol_at};
 ghost use Rattle.fo_core.specs.Sorted.{IsFormula};
+ghost use Rattle.fo_core.specs.SortGraph.{FormulaEdge};
 ghost use Rattle.fo_core.specs.Truth.{Truth};
 ghost use Rattle.fo_core.specs.Shift.{moved as moved_of, shift, shift_term, CanShift, CanShiftTerm};
 
@@ -100,7 +101,7 @@ fn shifted_formula(alloc: Global, sig: &Sig, f: &Formula, by: u32) -> Result<For
 }
 
 /// The formula with the copy of each mutable symbol moved on by so many copies. It is true where
-/// the formula is true that many copies on.
+/// the formula is true that many copies on, and has the same edges in the sort graph.
 ///
 /// The formula has to be well-sorted under some variables, and each of the moved copies has to
 /// be below 2^32.
@@ -109,6 +110,7 @@ pub fn shifted(alloc: Global, sig: &Sig, f: &Formula, by: u32) -> Result<Formula
     ensures formula { IfOk result (λ g. g ≡ shift sig.now by f.now) }
     ensures sorted { IfOk result (λ g. (n : ℕ) (ss : List ℕ) → IsFormula sig.now n f.now ss → IsFormula sig.now (n + by) g ss) }
     ensures truth { IfOk result (λ g. (w : World) (c : ℕ) (vs : List ℕ) → Truth sig.now w c g vs ↔ Truth sig.now w (c + by) f.now vs) }
+    ensures edges { IfOk result (λ g. (a b : ℕ) (sign : Bool) → FormulaEdge a b g sign ↔ FormulaEdge a b f.now sign) }
 {
     shifted_formula(alloc, sig, f, by)
 }

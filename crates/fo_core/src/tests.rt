@@ -1,6 +1,8 @@
 ghost use Rattle.std.specs.Prelude.{◌≡◌, [], ◌∷◌, true, false, IfOk};
 
-use crate::{Boxed, Formula, Names, Seq, Sig, Step, Symbol, System, Table, Term, Text, World};
+use crate::{
+    Boxed, Formula, Names, Order, Purpose, Seq, Sig, Step, Symbol, System, Table, Term, Text, World,
+};
 use std::alloc::{AllocError, Global};
 use std::test::Fail;
 
@@ -119,6 +121,19 @@ fn values_are_read(rt: HostRuntime) -> Result<(), Fail> {
 }
 
 #[test]
+fn orders_are_copied(rt: HostRuntime) -> Result<(), Fail> {
+    let alloc = rt.alloc();
+    let order = Order {
+        numbers: Seq::from_vec([2, 1].to_vec(alloc)?),
+    };
+    let copy = order.copy(alloc)?;
+    assert_eq!(rt; *copy.numbers.at(0), 2);
+    assert_eq!(rt; copy.numbers.len(), 2);
+    assert!(rt; Purpose::Infer != Purpose::Verify);
+    Ok(())
+}
+
+#[test]
 fn systems_are_sorted_or_not(rt: HostRuntime) -> Result<(), Fail> {
     let alloc = rt.alloc();
     let good = system(alloc, claim(alloc)?)?;
@@ -172,6 +187,10 @@ fn values_cross_threads(rt: HostRuntime) -> Result<(), Fail> {
     assert_eq!(rt; shares(&system).safeties.len(), 1);
     let world = sends(world(alloc, &[1, 0], &[0, 1])?);
     assert_eq!(rt; shares(&world).copies.len(), 1);
+    let order = sends(Order {
+        numbers: Seq::new(alloc),
+    });
+    assert!(rt; shares(&order).numbers.is_empty());
     let boxed = Boxed::new(alloc, sends(claim(alloc)?))?;
     assert!(rt; matches!(shares(&boxed).get(), Formula::All(_, _)));
     assert!(rt; matches!(boxed.into_inner(), Formula::All(_, _)));
