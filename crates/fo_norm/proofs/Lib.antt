@@ -1,0 +1,12 @@
+pub mod Backward
+pub mod Choices
+pub mod Edges
+pub mod Forward
+pub mod InRows
+pub mod Readings
+pub mod Shape
+pub mod Steps
+pub mod SyntaxRows
+pub mod Weights
+pub mod Whole
+pub mod Worlds

@@ -1,0 +1,12 @@
+//! Skolem form of queries: negation normal form, with functions in place of existentials.
+#![tactic(auto)]
+
+mod form;
+mod norm;
+mod scope;
+mod terms;
+#[cfg(test)]
+mod tests;
+
+pub use form::SkolemForm;
+pub use norm::normal;
