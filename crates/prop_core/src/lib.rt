@@ -10,7 +10,7 @@ mod lit;
 
 pub use answer::{Answer, Refutation};
 pub use clause::Clause;
-pub use cnf::Cnf;
+pub use cnf::{Cnf, copy_clauses};
 pub use lit::Lit;
 
 #[cfg(test)]
