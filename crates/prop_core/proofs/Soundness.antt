@@ -1,9 +1,12 @@
 -- What follows by unit propagation is true wherever the clauses are.
-use Rattle.std.proofs.Common.{◌≡◌, ℕ, Bool, List, [], ◌∷◌, ◌++◌, map, sym, ◌∙◌, subst, inl, inr, arith, append-nil, append_assoc}
+use Rattle.std.proofs.Common.{◌≡◌, ◌↔◌, ℕ, Bool, List, [], ◌∷◌, ◌++◌, map, sym, ◌∙◌, subst, inl, inr, arith, append-nil, append_assoc}
 use Rattle.std.specs.List.{Contains}
 use Rattle.std.proofs.lemmas.List.Elements.{All-contains, All-push, Contains-push, Contains-append_right}
 use Rattle.prop_core.specs.declared.lit.Lit.{Lit}
-use Rattle.prop_core.specs.Formula.{negated, MeetsClause, MeetsAll}
+use Rattle.prop_core.specs.declared.answer.Answer.{Answer}
+use Rattle.prop_core.specs.declared.answer.Answer.TheVariants.{Sat, Unsat}
+use Rattle.prop_core.specs.Answers.{IsAnswer, SaysUnsat, HaveNoValues}
+use Rattle.prop_core.specs.Formula.{negated, value_of, MeetsClause, MeetsAll}
 use Rattle.prop_core.specs.Propagation.{Forced, Follows, IsDerivation, IsRefutation}
 use Rattle.prop_core.specs.Propagation.Forced.{given, by_clause}
 use Rattle.prop_core.proofs.Clauses.{lit_cases_eq, not_itself, clause_cases, Contains-from_map, All-from_contains}
@@ -59,3 +62,8 @@ pub steps_sound : (clauses steps : List (List Lit)) (v : ℕ → Bool) → Meets
 steps_sound clauses steps v meets h =
     All-from_contains (MeetsClause v) steps (λ c in_steps.
     All-contains (MeetsClause v) (clauses ++ steps) c (derivation_sound clauses steps v meets h) (Contains-append_right clauses steps c in_steps))
+
+-- an answer says that there are no values exactly where there are none
+pub answer_exact : (vars : ℕ) (clauses : List (List Lit)) (a : Answer) → IsAnswer vars clauses a → (SaysUnsat a ↔ HaveNoValues clauses)
+answer_exact vars clauses (Sat values) h = (λ f. absurd f, λ none. none (value_of values) h.1)
+answer_exact vars clauses (Unsat r) h = (λ _ v meets. refutation_sound clauses r.clauses v h.1 meets, λ _. tt)
