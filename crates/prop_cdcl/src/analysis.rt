@@ -70,7 +70,13 @@ impl Analysis {
 
     /// Resolves the conflict's literals of its level, last first, until one is left, and answers
     /// its negation.
-    fn resolve(&mut self, clauses: &[Clause], conflict: usize, trail: &Trail, order: &mut Order) -> Option<Lit> {
+    fn resolve(
+        &mut self,
+        clauses: &[Clause],
+        conflict: usize,
+        trail: &Trail,
+        order: &mut Order,
+    ) -> Option<Lit> {
         self.meet(clauses, conflict, trail, order);
         for above in 1..=trail.len() {
             let lit = trail.lit(trail.len().checked_sub(above)?)?;
@@ -90,7 +96,9 @@ impl Analysis {
 
     /// Meets the false literals of a clause.
     fn meet(&mut self, clauses: &[Clause], at: usize, trail: &Trail, order: &mut Order) {
-        let Some(clause) = clauses.get(at) else { return };
+        let Some(clause) = clauses.get(at) else {
+            return
+        };
         for lit in clause.as_slice() {
             let level = trail.level_of(*lit);
             if level > 0 && trail.is_false(*lit) && !self.is_seen(*lit) {
@@ -107,8 +115,12 @@ impl Analysis {
 
     /// Whether the other literals of a literal's reason were all met.
     fn is_implied(&self, clauses: &[Clause], lit: Lit, trail: &Trail) -> bool {
-        let Reason::Clause(at) = trail.reason_of(lit) else { return false };
-        let Some(clause) = clauses.get(at) else { return false };
+        let Reason::Clause(at) = trail.reason_of(lit) else {
+            return false
+        };
+        let Some(clause) = clauses.get(at) else {
+            return false
+        };
         for other in clause.as_slice() {
             if other.var != lit.var && !self.is_seen(*other) && trail.level_of(*other) > 0 {
                 return false;
@@ -129,7 +141,9 @@ impl Analysis {
 
 /// The literal that a learnt clause makes true, and one of the greatest level among the others.
 pub fn watched(clause: &[Lit], trail: &Trail) -> (Lit, Option<Lit>) {
-    let Some((first, rest)) = clause.split_first() else { return (Lit::default(), None) };
+    let Some((first, rest)) = clause.split_first() else {
+        return (Lit::default(), None)
+    };
     let mut best: Option<Lit> = None;
     for lit in rest {
         match best {

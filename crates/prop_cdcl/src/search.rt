@@ -46,7 +46,9 @@ pub struct Search {
 
 /// The first literal of the clause, and the first one that differs from it.
 fn two_of(clause: &[Lit]) -> (Option<Lit>, Option<Lit>) {
-    let Some(first) = clause.first() else { return (None, None) };
+    let Some(first) = clause.first() else {
+        return (None, None)
+    };
     for lit in clause {
         if lit != first {
             return (Some(*first), Some(*lit));
@@ -111,7 +113,9 @@ impl Search {
         for _ in 0..=self.vars {
             if let Some(conflict) = self.propagate(clauses) {
                 self.conflicts = self.conflicts.saturating_add(1);
-                let learnt = self.analysis.learn(alloc, clauses, conflict, &self.trail, &mut self.order)?;
+                let learnt = self
+                    .analysis
+                    .learn(alloc, clauses, conflict, &self.trail, &mut self.order)?;
                 return Ok(Event::Learnt(learnt));
             }
             if !self.decide() {
@@ -157,7 +161,9 @@ impl Search {
         if self.trail.is_true(other) {
             return Look::Stay;
         }
-        let Some(clause) = clauses.get(node / 2) else { return Look::Stay };
+        let Some(clause) = clauses.get(node / 2) else {
+            return Look::Stay
+        };
         for lit in clause.as_slice() {
             if *lit != other && !self.trail.is_false(*lit) {
                 return Look::Move(*lit);
@@ -173,7 +179,9 @@ impl Search {
     /// Decides the next variable in order, and answers whether there was one without a value.
     fn decide(&mut self) -> bool {
         for _ in 0..self.vars {
-            let Some(var) = self.order.pop() else { return false };
+            let Some(var) = self.order.pop() else {
+                return false
+            };
             if self.trail.is_open(var) {
                 if let Ok(var) = u32::try_from(var) {
                     self.trail.decide(var);
@@ -205,7 +213,9 @@ impl Search {
 
     /// Takes the last clause, which was learnt, and goes back to where it makes a literal true.
     pub fn take(&mut self, clauses: &[Clause]) {
-        let Some(at) = clauses.len().checked_sub(1) else { return };
+        let Some(at) = clauses.len().checked_sub(1) else {
+            return
+        };
         let (asserted, second) = watched(clauses[at].as_slice(), &self.trail);
         match second {
             Some(lit) => {

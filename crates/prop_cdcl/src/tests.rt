@@ -71,7 +71,9 @@ fn drawn(alloc: Global, vars: u32, count: u32, seed: u64) -> Result<Cnf, AllocEr
     for _ in 0..count {
         let mut clause = Clause::new(alloc);
         for _ in 0..3 {
-            state = state.wrapping_mul(6364136223846793005).wrapping_add(1442695040888963407);
+            state = state
+                .wrapping_mul(6364136223846793005)
+                .wrapping_add(1442695040888963407);
             let bits = (state >> 33) as u32;
             if bits % 8 > 0 {
                 clause.push(lit((bits / 16) % vars, bits / 8 % 2 == 0))?;
