@@ -6,8 +6,8 @@ use std::alloc::{AllocError, Global};
 /// The place of a variable that isn't in the heap.
 const NONE: usize = usize::MAX;
 
-/// Scores are halved often enough to stay below this.
-const MOST: u64 = 1 << 62;
+/// Above this step the scores and the step are scaled down, so that no score runs over.
+const HIGH: u64 = 1 << 46;
 
 /// A heap has fewer levels than this.
 const LEVELS: usize = 64;
@@ -155,7 +155,7 @@ impl Order {
     /// A conflict is over: later ones count more.
     pub fn age(&mut self) {
         self.step = self.step.saturating_add(self.step / 16);
-        if self.step > MOST / 65536 {
+        if self.step > HIGH {
             for score in self.scores.iter_mut() {
                 *score >>= 30;
             }
