@@ -1,0 +1,9 @@
+pub mod Exact
+pub mod Loops
+pub mod Numbers
+pub mod Worlds
+pub mod Counts
+pub mod LineLists
+pub mod Cuts
+pub mod Whole
+pub mod Places
