@@ -1,5 +1,3 @@
-ghost use Rattle.fo_core.specs.Sorted.{IsSystem};
-
 use crate::{Purpose, StratFault, order};
 use fo_core::{Boxed, Formula, Seq, Sig, Step, Symbol, System, Term};
 use std::alloc::{AllocError, Global};
@@ -64,13 +62,19 @@ fn le(alloc: Global, x: u32, y: u32) -> Result<Formula, AllocError> {
     Ok(Formula::Rel(1, 0, args))
 }
 
-/// The cycle, or None where there is an order.
-fn cycle(alloc: Global, sys: &System, purpose: Purpose) -> Result<Option<Vec<u32>>, AllocError>
-    requires { IsSystem sys.now }
-{
+/// Whether the system is well-sorted, and this cycle is answered, or an order where it is empty.
+fn answers(
+    alloc: Global,
+    sys: &System,
+    purpose: Purpose,
+    expected: &[u32],
+) -> Result<bool, AllocError> {
+    if !sys.is_well_sorted(alloc)? {
+        return Ok(false);
+    }
     match order(alloc, sys, purpose) {
-        Ok(_order) => Ok(None),
-        Err(StratFault::Cycle(cycle)) => Ok(Some(cycle.into_vec())),
+        Ok(_order) => Ok(expected.is_empty()),
+        Err(StratFault::Cycle(cycle)) => Ok(cycle.as_slice() == expected),
         Err(StratFault::Memory) => Err(AllocError),
     }
 }
@@ -79,11 +83,7 @@ fn cycle(alloc: Global, sys: &System, purpose: Purpose) -> Result<Option<Vec<u32
 fn a_function_into_its_own_sort_is_a_cycle(rt: HostRuntime) -> Result<(), Fail> {
     let alloc = rt.alloc();
     let sys = system(alloc, 1, &[(0, 0)])?;
-    assert!(rt; sys.is_well_sorted(alloc)?);
-    assert_eq!(rt;
-        cycle(alloc, &sys, Purpose::Infer)?,
-        Some(vec![in alloc; 0, 0]?)
-    );
+    assert!(rt; answers(alloc, &sys, Purpose::Infer, &[0, 0])?);
     Ok(())
 }
 
@@ -132,35 +132,11 @@ fn a_total_order_of_identities_is_accepted(rt: HostRuntime) -> Result<(), Fail> 
 fn the_first_of_the_shortest_cycles_is_answered(rt: HostRuntime) -> Result<(), Fail> {
     let alloc = rt.alloc();
     let two = system(alloc, 4, &[(2, 3), (3, 2), (3, 1), (1, 3), (0, 1)])?;
-    assert!(rt; two.is_well_sorted(alloc)?);
-    assert_eq!(rt;
-        cycle(alloc, &two, Purpose::Infer)?,
-        Some(vec![in alloc; 1, 3, 1]?)
-    );
-    Ok(())
-}
-
-#[test]
-fn cycles_of_one_start_come_in_lexicographic_order(rt: HostRuntime) -> Result<(), Fail> {
-    let alloc = rt.alloc();
+    assert!(rt; answers(alloc, &two, Purpose::Infer, &[1, 3, 1])?);
     let fork = system(alloc, 3, &[(0, 2), (2, 0), (1, 0), (0, 1)])?;
-    assert!(rt; fork.is_well_sorted(alloc)?);
-    assert_eq!(rt;
-        cycle(alloc, &fork, Purpose::Infer)?,
-        Some(vec![in alloc; 0, 1, 0]?)
-    );
-    Ok(())
-}
-
-#[test]
-fn a_loop_is_shorter_than_a_cycle_of_two(rt: HostRuntime) -> Result<(), Fail> {
-    let alloc = rt.alloc();
+    assert!(rt; answers(alloc, &fork, Purpose::Infer, &[0, 1, 0])?);
     let own = system(alloc, 3, &[(0, 1), (1, 0), (2, 2)])?;
-    assert!(rt; own.is_well_sorted(alloc)?);
-    assert_eq!(rt;
-        cycle(alloc, &own, Purpose::Infer)?,
-        Some(vec![in alloc; 2, 2]?)
-    );
+    assert!(rt; answers(alloc, &own, Purpose::Infer, &[2, 2])?);
     Ok(())
 }
 
@@ -170,12 +146,8 @@ fn verification_sees_both_signs(rt: HostRuntime) -> Result<(), Fail> {
     let mut sys = system(alloc, 2, &[(1, 0)])?;
     sys.safeties
         .push(all(alloc, 0, some(alloc, 1, Formula::True)?)?)?;
-    assert!(rt; sys.is_well_sorted(alloc)?);
-    assert_eq!(rt; cycle(alloc, &sys, Purpose::Infer)?, None);
-    assert_eq!(rt;
-        cycle(alloc, &sys, Purpose::Verify)?,
-        Some(vec![in alloc; 0, 1, 0]?)
-    );
+    assert!(rt; answers(alloc, &sys, Purpose::Infer, &[])?);
+    assert!(rt; answers(alloc, &sys, Purpose::Verify, &[0, 1, 0])?);
     Ok(())
 }
 
@@ -188,13 +160,8 @@ fn parameters_stand_outermost(rt: HostRuntime) -> Result<(), Fail> {
         params: Seq::from_vec([0].to_vec(alloc)?),
         body: some(alloc, 1, Formula::True)?,
     })?;
-    assert!(rt; sys.is_well_sorted(alloc)?);
-    assert_eq!(rt; cycle(alloc, &sys, Purpose::Verify)?, None);
+    assert!(rt; answers(alloc, &sys, Purpose::Verify, &[])?);
     sys.inits.push(not(alloc, some(alloc, 0, all(alloc, 1, Formula::False)?)?)?)?;
-    assert!(rt; sys.is_well_sorted(alloc)?);
-    assert_eq!(rt;
-        cycle(alloc, &sys, Purpose::Infer)?,
-        Some(vec![in alloc; 0, 1, 0]?)
-    );
+    assert!(rt; answers(alloc, &sys, Purpose::Infer, &[0, 1, 0])?);
     Ok(())
 }
