@@ -1,10 +1,11 @@
 ghost use Rattle.std.specs.Prelude.{◌<◌, ◌^◌, length};
 ghost use Rattle.fo_core.specs.Sorted.{IsSystem, IsWithinDepth};
+ghost use Rattle.fo_text.specs.Texts.{HasText};
 
 use crate::cursor::Unread;
 use crate::model_text::{Named, read_model};
 use crate::report_text::read_report;
-use fo_core::World;
+use fo_core::{System, World};
 use fo_eval::Env;
 use std::alloc::{AllocError, Global};
 use up_cert::{Spot, judge_run};
@@ -32,33 +33,35 @@ pub enum Judged {
 
 /// Judges a report of a violating run against a model.
 pub fn judge(alloc: Global, model: &[u8], report: &[u8]) -> Result<Judged, AllocError>
-    requires { length model.now < 2 ^ 32 }
+    requires model { length model.now < 2 ^ 32 }
+    requires report { length report.now < 2 ^ 32 }
 {
-    let named = match read_model(alloc, model) {
+    let Named { sys, names } = match read_model(alloc, model) {
         Ok(named) => named,
         Err(Unread::Form) => return Ok(Judged::NotBuilt(Which::Model)),
         Err(Unread::Memory) => return Err(AllocError),
     };
-    if !named.sys.is_well_sorted(alloc)? || !named.sys.is_within_depth(DEPTH) {
+    if !sys.is_well_sorted(alloc)?
+        || !sys.is_within_depth(DEPTH)
+        || !names.fit(&sys.sig, sys.steps.len())
+    {
         return Ok(Judged::NotBuilt(Which::Model));
     }
-    match read_report(alloc, &named.sys.sig, &named.names, report) {
-        Ok(world) => Ok(judge_world(alloc, &named, &world)?),
+    match read_report(alloc, &sys.sig, &names, report) {
+        Ok(world) => Ok(judge_world(alloc, &sys, &world)?),
         Err(Unread::Form) => Ok(Judged::NotBuilt(Which::Report)),
         Err(Unread::Memory) => Err(AllocError),
     }
 }
 
 /// Judges a world that a report shows.
-fn judge_world(alloc: Global, named: &Named, w: &World) -> Result<Judged, AllocError>
-    requires sorted { IsSystem named.now.sys }
-    requires shallow { IsWithinDepth 64 named.now.sys }
+fn judge_world(alloc: Global, sys: &System, w: &World) -> Result<Judged, AllocError>
+    requires sorted { IsSystem sys.now }
+    requires shallow { IsWithinDepth 64 sys.now }
+    requires world { HasText sys.now.sig w.now }
 {
-    if !w.fits(&named.sys.sig) || w.copies.len() > u32::MAX as usize {
-        return Ok(Judged::NotBuilt(Which::Report));
-    }
     let mut env = Env::new(alloc, DEPTH)?;
-    Ok(match judge_run(&named.sys, w, &mut env) {
+    Ok(match judge_run(sys, w, &mut env) {
         None => Judged::Holds,
         Some(spot) => Judged::Wrong(spot),
     })

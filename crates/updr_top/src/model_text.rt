@@ -13,7 +13,7 @@ use std::alloc::Global;
 /// How many relations and how many transitions a model may have.
 const MOST: usize = 256;
 
-/// A system with its names.
+/// A system with its names, neither of which was tested to be well-formed.
 #[derive(Drop)]
 pub struct Named {
     pub sys: System,
@@ -111,12 +111,8 @@ fn declarations(alloc: Global, bytes: &[u8], tokens: &[Token]) -> Result<Named, 
     let names = names_of(alloc, sort, &relations, &transitions)?;
     let symbols = symbols(alloc, relations.len())?;
     let parts = parts_of(alloc, cursor, relations, sort)?;
-    let sig = Sig { sorts: 1, symbols };
-    if !names.fit(&sig, parts.steps.len()) {
-        return Err(Unread::Form);
-    }
     let sys = System {
-        sig,
+        sig: Sig { sorts: 1, symbols },
         axioms: Seq::new(alloc),
         inits: parts.inits,
         steps: parts.steps,

@@ -1,24 +1,33 @@
 //! Reads reports of a violating run: a header, the world of the run, three numbers and an end.
 
-ghost use Rattle.std.specs.Prelude.{◌≤◌, IfOk};
+ghost use Rattle.std.specs.Prelude.{◌≤◌, ◌<◌, ◌^◌, length, IfOk};
+ghost use Rattle.fo_core.specs.Sorted.{IsSig};
+ghost use Rattle.fo_text.specs.Texts.{NamesEach, HasText};
 
 use crate::cursor::Unread;
-use fo_core::{Names, Seq, Sig, Table, World};
+use fo_core::{Names, Sig, World};
+use fo_text::{TextFault, world_read};
 use std::alloc::Global;
 
-/// What is left of a report.
+/// The most steps that a report's run may have.
+const MOST_STEPS: u64 = 64;
+
+/// A report, and how many of its bytes were taken.
 #[derive(Drop)]
-struct Rest<'a> {
+struct Report<'a> {
     bytes: &'a [u8],
+    at: usize,
+    ghost short: { length bytes.now < 2 ^ 32 },
+    ghost within: { at ≤ length bytes.now },
 }
 
-impl Rest<'_> {
+impl Report<'_> {
     /// Takes these bytes.
     fn take(&mut self, front: &[u8]) -> Result<(), Unread> {
-        if !self.bytes.starts_with(front) {
+        if !self.bytes[self.at..].starts_with(front) {
             return Err(Unread::Form);
         }
-        self.bytes = &self.bytes[front.len()..];
+        self.at += front.len();
         Ok(())
     }
 
@@ -26,28 +35,30 @@ impl Rest<'_> {
     fn take_number(&mut self, most: u64) -> Result<u64, Unread>
         ensures { IfOk result (λ number. number ≤ most) }
     {
-        let is_no_digit = |byte: &u8| !matches!(*byte, b'0'..=b'9');
-        let len = match self.bytes.iter().position(is_no_digit) {
+        let rest = &self.bytes[self.at..];
+        let len = match rest.iter().position(|byte| !matches!(*byte, b'0'..=b'9')) {
             Some(len) => len,
-            None => self.bytes.len(),
+            None => rest.len(),
         };
-        let (digits, behind) = self.bytes.split_at(len);
-        self.bytes = behind;
-        match decimal(digits) {
+        let number = decimal(&rest[..len]);
+        self.at += len;
+        match number {
             Some(number) if number <= most => Ok(number),
             _ => Err(Unread::Form),
         }
     }
 
-    /// Takes a number that is a `u32`.
-    fn take_u32(&mut self) -> Result<u32, Unread> {
-        Ok(self.take_number(0xffff_ffff)? as u32)
-    }
-
-    /// Takes a line's first words: this and a name, or this alone.
-    fn take_name(&mut self, front: &[u8], name: &str) -> Result<(), Unread> {
-        self.take(front)?;
-        self.take(name.as_bytes())
+    /// Takes the text of a world.
+    fn take_world(&mut self, alloc: Global, sig: &Sig, names: &Names) -> Result<World, Unread>
+        requires signature { IsSig sig.now }
+        requires named { NamesEach sig.now names.now }
+        ensures { IfOk result (HasText sig.now) }
+    {
+        match world_read(alloc, sig, names, self.bytes, &mut self.at) {
+            Ok(world) => Ok(world),
+            Err(TextFault::Bad(_)) => Err(Unread::Form),
+            Err(TextFault::Memory) => Err(Unread::Memory),
+        }
     }
 }
 
@@ -64,93 +75,29 @@ fn decimal(digits: &[u8]) -> Option<u64> {
     Some(number)
 }
 
-/// The world of a report of a violating run, whose tables may still have too few or too many
-/// values, or values out of range.
-pub fn read_report(alloc: Global, sig: &Sig, names: &Names, bytes: &[u8]) -> Result<World, Unread> {
-    let mut rest = Rest { bytes };
-    rest.take(b"report 1\nverdict unsafe ")?;
-    let steps = rest.take_number(64)?;
-    rest.take(b"\nworld ")?;
-    let count = rest.take_number(65)?;
-    rest.take(b"\n")?;
-    if count != steps + 1 {
-        return Err(Unread::Form);
-    }
-    let world = world(alloc, sig, names, count, &mut rest)?;
-    rest.take(b"end\nnumbers ")?;
-    rest.take_number(u64::MAX)?;
-    rest.take(b" ")?;
-    rest.take_number(u64::MAX)?;
-    rest.take(b" ")?;
-    rest.take_number(u64::MAX)?;
-    rest.take(b"\ndone\n")?;
-    if rest.bytes.is_empty() {
+/// The world of a report of a violating run: one of the signature, with a copy more than the
+/// report says that there are steps.
+pub fn read_report(alloc: Global, sig: &Sig, names: &Names, bytes: &[u8]) -> Result<World, Unread>
+    requires signature { IsSig sig.now }
+    requires named { NamesEach sig.now names.now }
+    requires short { length bytes.now < 2 ^ 32 }
+    ensures { IfOk result (HasText sig.now) }
+{
+    let mut report = Report { bytes, at: 0 };
+    report.take(b"report 1\nverdict unsafe ")?;
+    let steps = report.take_number(MOST_STEPS)?;
+    report.take(b"\n")?;
+    let world = report.take_world(alloc, sig, names)?;
+    report.take(b"numbers ")?;
+    report.take_number(u64::MAX)?;
+    report.take(b" ")?;
+    report.take_number(u64::MAX)?;
+    report.take(b" ")?;
+    report.take_number(u64::MAX)?;
+    report.take(b"\ndone\n")?;
+    if report.at == bytes.len() && world.copies.len() as u64 == steps + 1 {
         Ok(world)
     } else {
         Err(Unread::Form)
     }
-}
-
-fn world(
-    alloc: Global,
-    sig: &Sig,
-    names: &Names,
-    count: u64,
-    rest: &mut Rest<'_>,
-) -> Result<World, Unread> {
-    let mut sizes = Seq::new(alloc);
-    for name in names.sorts.as_slice() {
-        rest.take_name(b"sort ", name.as_str())?;
-        rest.take(b" ")?;
-        sizes.push(rest.take_u32()?)?;
-        rest.take(b"\n")?;
-    }
-    rest.take(b"fixed\n")?;
-    let fixed = tables(alloc, sig, names, false, rest)?;
-    let mut copies = Seq::new(alloc);
-    for number in 0..count {
-        rest.take(b"copy ")?;
-        if rest.take_number(64)? != number {
-            return Err(Unread::Form);
-        }
-        rest.take(b"\n")?;
-        copies.push(tables(alloc, sig, names, true, rest)?)?;
-    }
-    Ok(World {
-        sizes,
-        fixed,
-        copies,
-    })
-}
-
-/// The tables of the mutable or of the immutable symbols.
-fn tables(
-    alloc: Global,
-    sig: &Sig,
-    names: &Names,
-    mutable: bool,
-    rest: &mut Rest<'_>,
-) -> Result<Seq<Table>, Unread> {
-    let mut tables = Seq::new(alloc);
-    for (symbol, name) in sig.symbols.as_slice().iter().zip(names.symbols.as_slice()) {
-        if symbol.mutable == mutable {
-            rest.take_name(b"", name.as_str())?;
-            tables.push(table(alloc, rest)?)?;
-        }
-    }
-    Ok(tables)
-}
-
-/// The values to the end of the line.
-fn table(alloc: Global, rest: &mut Rest<'_>) -> Result<Table, Unread> {
-    let mut values = Seq::new(alloc);
-    for _ in 0..rest.bytes.len() {
-        if rest.bytes.starts_with(b"\n") {
-            break;
-        }
-        rest.take(b" ")?;
-        values.push(rest.take_u32()?)?;
-    }
-    rest.take(b"\n")?;
-    Ok(Table { values })
 }
