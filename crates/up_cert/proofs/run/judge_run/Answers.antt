@@ -1,5 +1,5 @@
 use Rattle.std.proofs.Common.{refl}
-use Rattle.up_cert.proofs.SpotLemmas.{fails, holds, no-state, no-step, not-initial, unviolated, violated, not_true, not_false}
+use Rattle.up_cert.proofs.SpotLemmas.{fails, holds, no-state, no-step, unviolated, violated, not_true, not_false}
 use Rattle.up_cert.proofs.run.judge_run.Goals as goal
 
 pub returns-in-Some-clause-holds : goal.returns-in-Some-clause-holds

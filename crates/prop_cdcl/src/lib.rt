@@ -1,0 +1,17 @@
+//! A search for values that meet all clauses, which learns a clause from each conflict.
+//!
+//! Nothing is proved of the search itself but that it is safe and ends. What it learns is offered
+//! to a `Checked`, which takes only what follows; values that it finds are looked at again.
+#![tactic(auto)]
+
+mod analysis;
+mod lists;
+mod order;
+mod search;
+mod solver;
+mod trail;
+
+pub use solver::solve;
+
+#[cfg(test)]
+mod tests;

@@ -1,0 +1,9 @@
+//! A search for values that meet all clauses, which branches in order of variables.
+#![tactic(auto)]
+
+mod search;
+
+pub use search::{go_on, solve};
+
+#[cfg(test)]
+mod tests;

@@ -1,0 +1,121 @@
+ghost use Rattle.std.specs.Prelude.{◌≡◌, ◌++◌, map, string_bytes, codes, IfOk};
+ghost use Rattle.updr_top.specs.Ends.{usage};
+ghost use Rattle.updr_top.specs.Outside.{outside};
+ghost use Rattle.updr_top.specs.Stages.{ends};
+ghost use Rattle.updr_top.specs.Judging.{judged_end, spot_words};
+ghost use Rattle.updr_top.specs.Course.{command_of, stages, checking};
+ghost use Rattle.updr_top.specs.Course.Command.{Usage};
+ghost use Rattle.updr_top.specs.Table.{ComesExactly, IsReadFault, LongIsRefused, IsWriteFault, LeavesOut, Gains, IsStatus, files_of};
+ghost use Rattle.updr_top.specs.Stops.{ComesBy};
+ghost use Rattle.updr_top.specs.Telling.{sunk, IsAnswer};
+
+use crate::judging::{Judged, Which, judge};
+use crate::reading::{Stop, read_file};
+use crate::told::{Ending, Told, put_out_of_memory};
+use pv_base::{Files, Sink};
+use std::alloc::{AllocError, Global};
+use up_cert::{Spot, What};
+
+/// Serves the words of a command line, those behind the program's name: `check MODEL REPORT` reads
+/// a model and a report of a violating run, and prints whether the run really is one.
+///
+/// The status is 0 with `holds` on `out`; 6 with `wrong` and the first spot that fails; 10 where
+/// the words are no command; 11 where a file can't be read or is too long; 15 where a put failed;
+/// 16 where memory was wanting; 19 where a file isn't of the form that is read today. Each from 10
+/// on puts its line on `err` and nothing on `out`, but for a prefix of the text with 15. It waits
+/// for nobody.
+#[tactic(auto, using(crate::proofs::Table::usage_line, crate::proofs::Table::read_line, crate::proofs::Table::long_line, crate::proofs::Table::write_line, crate::proofs::Table::memory_line, crate::proofs::Table::gains_line, crate::proofs::Table::status_line))]
+pub fn run_plain<F: Files, O: Sink, E: Sink>(
+    alloc: Global,
+    words: Vec<String>,
+    files: &mut F,
+    out: &mut O,
+    err: &mut E,
+) -> Ending
+    // The end comes by the command's stages in their order, and is told to `out` and `err`.
+    ensures answer { IsAnswer (stages (outside F.contents F.faults F.refused files.old files.new) (command_of (map string_bytes words.items))) (sunk O.written O.faults out.old out.new) (sunk E.written E.faults err.old err.new) result.status }
+
+    // What follows from it for each status.
+    ensures status { IsStatus result.status }
+    ensures usage { ComesExactly 10 (command_of (map string_bytes words.items) ≡ Usage) result.status }
+    ensures read_fault { result.status ≡ 11 → IsReadFault (outside F.contents F.faults F.refused files.old files.new) (sunk E.written E.faults err.old err.new) (files_of (command_of (map string_bytes words.items))) }
+    ensures too_long { LongIsRefused (outside F.contents F.faults F.refused files.old files.new) (sunk E.written E.faults err.old err.new) (files_of (command_of (map string_bytes words.items))) result.status }
+    ensures write_fault { IsWriteFault (sunk O.written O.faults out.old out.new) (sunk E.written E.faults err.old err.new) result.status }
+    ensures memory { LeavesOut (sunk O.written O.faults out.old out.new) result.status }
+    ensures gains { Gains (sunk O.written O.faults out.old out.new) (sunk E.written E.faults err.old err.new) result.status }
+{
+    answer(alloc, &words, files, out, err)
+}
+
+fn answer<F: Files, O: Sink, E: Sink>(
+    alloc: Global,
+    words: &[String],
+    files: &mut F,
+    out: &mut O,
+    err: &mut E,
+) -> Ending
+    ensures { IsAnswer (stages (outside F.contents F.faults F.refused files.old files.new) (command_of (map string_bytes words.now))) (sunk O.written O.faults out.old out.new) (sunk E.written E.faults err.old err.new) result.status }
+{
+    match serve(alloc, words, files) {
+        Ok(told) | Err(Stop::Refused(told)) => told.put(out, err),
+        Err(Stop::Memory) => Ending {
+            status: put_out_of_memory(out, err),
+        },
+    }
+}
+
+fn serve<F: Files>(alloc: Global, words: &[String], files: &mut F) -> Result<Told, Stop>
+    ensures { ComesBy (stages (outside F.contents F.faults F.refused files.old files.new)
+        (command_of (map string_bytes words.now))) result }
+{
+    match words.len() {
+        3 => {
+            if words[0].as_str() == "check" {
+                check(alloc, words[1].as_str(), words[2].as_str(), files)
+            } else {
+                usage(alloc)
+            }
+        }
+        _ => usage(alloc),
+    }
+}
+
+fn usage(alloc: Global) -> Result<Told, Stop>
+    ensures { ComesBy (ends usage) result }
+{
+    Ok(Told::refusal(alloc, 10, "usage", "", "")?)
+}
+
+fn check<F: Files>(alloc: Global, model: &str, report: &str, files: &mut F) -> Result<Told, Stop>
+    ensures { ComesBy (checking (outside F.contents F.faults F.refused files.old files.new) model.now report.now) result }
+{
+    let model_bytes = read_file(alloc, files, model)?;
+    let report_bytes = read_file(alloc, files, report)?;
+    let judged = judge(alloc, &model_bytes, &report_bytes)?;
+    Ok(judged_end(alloc, model, report, judged)?)
+}
+
+fn judged_end(alloc: Global, model: &str, report: &str, judged: Judged) -> Result<Told, AllocError>
+    ensures { IfOk result (λ t. t ≡ judged_end model.now report.now judged) }
+{
+    match judged {
+        Judged::NotBuilt(Which::Model) => Told::refusal(alloc, 19, "not built yet: ", model, ""),
+        Judged::NotBuilt(Which::Report) => Told::refusal(alloc, 19, "not built yet: ", report, ""),
+        Judged::Holds => Ok(Told::printing(alloc, 0, b"holds\n".to_vec(alloc)?)),
+        Judged::Wrong(spot) => Ok(Told::printing(alloc, 6, wrong_line(alloc, spot)?)),
+    }
+}
+
+/// The line that tells which spot fails.
+fn wrong_line(alloc: Global, spot: Spot) -> Result<Vec<u8>, AllocError>
+    ensures { IfOk result (λ line. line.items ≡ codes "wrong " ++ spot_words spot.what spot.number ++ codes "\n") }
+{
+    let number = spot.number;
+    let line = match spot.what {
+        What::State => format!(in alloc; "wrong state {number}\n")?,
+        What::Init => String::from_str(alloc, "wrong init\n")?,
+        What::Step => format!(in alloc; "wrong step {number}\n")?,
+        What::Safety => String::from_str(alloc, "wrong safety\n")?,
+    };
+    Ok(line.into_bytes())
+}

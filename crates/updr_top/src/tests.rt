@@ -1,0 +1,197 @@
+use crate::run_plain;
+use pv_base::{GoodFiles, GoodSink, MemFiles, MemSink};
+use std::alloc::{AllocError, Global};
+use std::test::Fail;
+
+const MODEL: &[u8] = b"sort node
+mutable relation held(node)
+init !held(N)
+transition grab(n: node)
+  modifies held
+  new(held(N)) <-> held(N) | N = n
+safety [one] held(N1) & held(N2) -> N1 = N2
+";
+
+const RUN: &[u8] = b"report 1
+verdict unsafe 2
+world 3
+sort node 2
+fixed
+copy 0
+held 0 0
+copy 1
+held 0 1
+copy 2
+held 1 1
+end
+numbers 0 0 0
+done
+";
+
+const ONE_NODE: &[u8] = b"report 1
+verdict unsafe 2
+world 3
+sort node 1
+fixed
+copy 0
+held 0
+copy 1
+held 1
+copy 2
+held 1
+end
+numbers 0 0 0
+done
+";
+
+const ONE_STEP: &[u8] = b"report 1
+verdict unsafe 1
+world 2
+sort node 2
+fixed
+copy 0
+held 0 0
+copy 1
+held 1 1
+end
+numbers 0 0 0
+done
+";
+
+const AT_ONCE: &[u8] = b"report 1
+verdict unsafe 0
+world 1
+sort node 2
+fixed
+copy 0
+held 1 1
+end
+numbers 0 0 0
+done
+";
+
+fn words_of(alloc: Global, words: &[&str]) -> Result<Vec<String>, AllocError> {
+    let mut all = Vec::new(alloc);
+    for word in words {
+        all.push(String::from_str(alloc, word)?)?;
+    }
+    Ok(all)
+}
+
+/// The status and the texts of `out` and `err` of a check of these contents.
+fn checked(
+    alloc: Global,
+    model: &[u8],
+    report: &[u8],
+) -> Result<(u8, MemSink, MemSink), AllocError> {
+    let mut files = MemFiles::new(alloc)?;
+    files.add("A", model)?;
+    files.add("R", report)?;
+    let mut out = MemSink::new(alloc, 100)?;
+    let mut err = MemSink::new(alloc, 100)?;
+    let words = words_of(alloc, &["check", "A", "R"])?;
+    let ending = run_plain(alloc, words, &mut files, &mut out, &mut err);
+    Ok((ending.status, out, err))
+}
+
+#[test]
+fn runs_are_judged(rt: HostRuntime) -> Result<(), Fail> {
+    let alloc = rt.alloc();
+    let answers: [(&[u8], u8, &[u8]); 4] = [
+        (RUN, 0, b"holds\n"),
+        (ONE_NODE, 6, b"wrong safety\n"),
+        (ONE_STEP, 6, b"wrong step 0\n"),
+        (AT_ONCE, 6, b"wrong init\n"),
+    ];
+    for (report, status, line) in answers {
+        let (answered, out, err) = checked(alloc, MODEL, report)?;
+        assert_eq!(rt; answered, status);
+        assert_eq!(rt; out.bytes(), line);
+        assert_eq!(rt; err.bytes(), b"".as_slice());
+    }
+    Ok(())
+}
+
+#[test]
+fn other_forms_are_refused(rt: HostRuntime) -> Result<(), Fail> {
+    let alloc = rt.alloc();
+    let (status, out, err) = checked(alloc, b"sort node\nsort id\n", RUN)?;
+    assert_eq!(rt; status, 19);
+    assert_eq!(rt; out.bytes(), b"".as_slice());
+    assert_eq!(rt; err.bytes(), b"updr: not built yet: A\n".as_slice());
+    let (status, _, err) = checked(alloc, MODEL, &RUN[..100])?;
+    assert_eq!(rt; status, 19);
+    assert_eq!(rt; err.bytes(), b"updr: not built yet: R\n".as_slice());
+    Ok(())
+}
+
+#[test]
+fn words_that_are_no_command(rt: HostRuntime) -> Result<(), Fail> {
+    let alloc = rt.alloc();
+    for words in [&[] as &[&str], &["check", "A"], &["prove", "A", "R"]] {
+        let words = words_of(alloc, words)?;
+        let mut err = MemSink::new(alloc, 100)?;
+        let files = &mut GoodFiles::new(alloc)?;
+        let ending = run_plain(alloc, words, files, &mut GoodSink::new(), &mut err);
+        assert_eq!(rt; ending.status, 10);
+        assert_eq!(rt; err.bytes(), b"updr: usage\n".as_slice());
+    }
+    Ok(())
+}
+
+#[test]
+fn files_that_are_not_read(rt: HostRuntime) -> Result<(), Fail> {
+    let alloc = rt.alloc();
+    let mut files = MemFiles::new(alloc)?;
+    files.add("A", MODEL)?;
+    files.add("long", &vec![in alloc; 97; 1_048_577]?)?;
+    let lines: [(&[&str], &[u8]); 3] = [
+        (&["check", "A", "R"], b"updr: cannot read R\n"),
+        (&["check", "B", "R"], b"updr: cannot read B\n"),
+        (
+            &["check", "long", "R"],
+            b"updr: long is longer than 1048576 bytes\n",
+        ),
+    ];
+    for (words, line) in lines {
+        let words = words_of(alloc, words)?;
+        let mut err = MemSink::new(alloc, 100)?;
+        let ending = run_plain(alloc, words, &mut files, &mut GoodSink::new(), &mut err);
+        assert_eq!(rt; ending.status, 11);
+        assert_eq!(rt; err.bytes(), line);
+    }
+    Ok(())
+}
+
+#[test]
+fn a_put_that_fails(rt: HostRuntime) -> Result<(), Fail> {
+    let alloc = rt.alloc();
+    let mut files = GoodFiles::new(alloc)?;
+    files.add("A", MODEL)?;
+    files.add("R", RUN)?;
+    let mut out = MemSink::new(alloc, 100)?;
+    out.fail_at(0)?;
+    let mut err = MemSink::new(alloc, 100)?;
+    let words = words_of(alloc, &["check", "A", "R"])?;
+    let ending = run_plain(alloc, words, &mut files, &mut out, &mut err);
+    assert_eq!(rt; ending.status, 15);
+    assert_eq!(rt; out.bytes(), b"hol".as_slice());
+    assert_eq!(rt; err.bytes(), b"updr: cannot write\n".as_slice());
+    Ok(())
+}
+
+/// Whatever a file is cut to, a call answers and says one line.
+#[test]
+fn cut_files_are_answered(rt: HostRuntime) -> Result<(), Fail> {
+    let alloc = rt.alloc();
+    for len in 0..MODEL.len() {
+        let (status, _, _) = checked(alloc, &MODEL[..len], RUN)?;
+        assert!(rt; status == 0 || status == 6 || status == 19);
+    }
+    for len in 0..RUN.len() {
+        let (status, out, _) = checked(alloc, MODEL, &RUN[..len])?;
+        assert_eq!(rt; status, 19);
+        assert_eq!(rt; out.bytes(), b"".as_slice());
+    }
+    Ok(())
+}
