@@ -11,7 +11,7 @@ use Rattle.fo_core.specs.declared.syntax.Term.TheVariants as T
 use Rattle.fo_core.specs.declared.syntax.Formula.{Formula, Row_of-Formula, end_of-Formula, more_of-Formula, items-the_row-Formula, items_hidden-the_row-Formula-1}
 use Rattle.fo_core.specs.declared.syntax.Formula.TheBlock.{shape-the_row-Formula-0, hidden-the_row-Formula-0}
 use Rattle.fo_core.specs.declared.syntax.Formula.TheVariants as F
-use Rattle.fo_core.specs.Sorted.{IsTerm, IsFormula}
+use Rattle.fo_core.specs.Sorted.{IsTerm}
 use Rattle.fo_core.specs.Tables.{symbol_at}
 use Rattle.fo_core.proofs.Rows.{row_of, args_of, sorted-Not, sorted-And, sorted-Or, sorted-All, sorted-Ex, sorted-App}
 use Rattle.fo_norm.specs.declared.scope.Slot.{Slot}

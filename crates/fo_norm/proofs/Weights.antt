@@ -1,7 +1,5 @@
 -- The nodes of a formula are those of its Skolem form and one for each Skolem symbol.
 use Rattle.std.proofs.Common.{◌≡◌, ℕ, Bool, true, false, not, ◌+◌, List, [], ◌∷◌, ◌++◌, length, map, refl, sym, ap, ◌∙◌, arith}
-use Rattle.std.specs.List.{All}
-use Rattle.std.proofs.lemmas.List.Elements.{All-nil, All-cons, All-head, All-tail, All-append}
 use denote.Hole.Carrier.{hidden}
 use Rattle.fo_core.specs.declared.syntax.Symbol.{Symbol}
 use Rattle.fo_core.specs.declared.syntax.Formula.{Formula, True, False, Rel, Eq, Not', And', Or', All', Ex', Row_of-Formula, end_of-Formula, more_of-Formula, items-the_row-Formula, items_hidden-the_row-Formula-1}
@@ -10,7 +8,7 @@ use Rattle.fo_core.specs.declared.syntax.Formula.TheVariants as F
 use Rattle.fo_core.proofs.Rows.{row_of}
 use Rattle.fo_norm.specs.declared.scope.Slot.{Slot}
 use Rattle.fo_norm.specs.declared.scope.Slot.TheVariants.{Level, Skolem}
-use Rattle.fo_core.specs.Skolems.{skolem, skolem_symbols, skolem_symbols_row, skolem_symbols_list}
+use Rattle.fo_core.specs.Skolems.{skolem_symbols, skolem_symbols_row, skolem_symbols_list}
 use Rattle.fo_norm.specs.Skolem.{filled, literal, joined, formed, formed_row, formed_list}
 use Rattle.fo_core.specs.Weights.{added, power, nodes, nodes_row, claim_nodes, skolem_nodes}
 

@@ -33,15 +33,17 @@ module _ (slots : List Slot) where
     filled_row end_of-Term = []
     filled_row (more_of-Term t rest) = filled t ∷ filled_row rest
 
--- what is left of a formula, or of its negation, at an atom and at a connective
+-- True or False
 abbrev pub constant : Bool → Formula
 constant true = True
 constant false = False
 
+-- the atom or its negation
 abbrev pub literal : Bool → Formula → Formula
 literal true f = f
 literal false f = F.Not f
 
+-- the conjunction or the disjunction
 abbrev pub joined : Bool → List Formula → Formula
 joined true fs = F.And fs
 joined false fs = F.Or fs
@@ -80,10 +82,11 @@ pub record CanFill (slots : List Slot) (t : Term) : Type 0 where
   pub sorted : IsTerm sig copies t sorts sort
   pub slotted : length sorts ≡ length slots
 
+-- terms whose variables have slots
 abbrev pub CanFillEach : List Slot → List Term → Type 0
 CanFillEach slots = All (CanFill slots)
 
--- a formula whose variables have slots
+-- a formula whose free variables have slots
 pub record CanForm (slots : List Slot) (f : Formula) : Type 0 where
   pub sig : Sig
   pub copies : ℕ
@@ -91,7 +94,7 @@ pub record CanForm (slots : List Slot) (f : Formula) : Type 0 where
   pub sorted : IsFormula sig copies f sorts
   pub slotted : length sorts ≡ length slots
 
--- a formula with one more variable than have slots
+-- a formula whose free variables but the last have slots
 pub record CanBind (slots : List Slot) (f : Formula) : Type 0 where
   pub sig : Sig
   pub copies : ℕ
@@ -100,15 +103,18 @@ pub record CanBind (slots : List Slot) (f : Formula) : Type 0 where
   pub sorted : IsFormula sig copies f (sorts ++ sort ∷ [])
   pub slotted : length sorts ≡ length slots
 
--- what stands for a universal and for an existential
+-- the Skolem symbols of a universal of sort s over f
 abbrev pub universal_symbols : Bool → ℕ → Formula → List ℕ → List Symbol
 universal_symbols b s f us = skolem_symbols b f (us ++ s ∷ [])
 
+-- the Skolem symbols of an existential of sort s over f
 abbrev pub existential_symbols : Bool → ℕ → Formula → List ℕ → List Symbol
 existential_symbols b s f us = skolem us s ∷ skolem_symbols b f us
 
+-- what a universal of sort s over f becomes
 abbrev pub universal : Bool → ℕ → Formula → List Slot → List ℕ → ℕ → Formula
 universal b s f slots us next = F.All s (formed b f (slots ++ Level (length us) ∷ []) (us ++ s ∷ []) next)
 
+-- what an existential over f becomes
 abbrev pub existential : Bool → Formula → List Slot → List ℕ → ℕ → Formula
 existential b f slots us next = formed b f (slots ++ Skolem next (length us) ∷ []) us (next + 1)

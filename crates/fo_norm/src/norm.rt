@@ -21,11 +21,7 @@ use std::alloc::{AllocError, Global};
 fn constant(value: bool) -> Formula
     ensures { result ≡ constant_of value }
 {
-    if value {
-        Formula::True
-    } else {
-        Formula::False
-    }
+    if value { Formula::True } else { Formula::False }
 }
 
 /// The atom or its negation.

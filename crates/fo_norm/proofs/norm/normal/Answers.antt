@@ -1,4 +1,4 @@
-use Rattle.std.proofs.Common.{◌≡◌, ◌∙◌, ◌+◌, ◌↔◌, [], List, sym, ap, subst, arith, true, refl, length}
+use Rattle.std.proofs.Common.{◌∙◌, ◌+◌, ◌↔◌, [], List, sym, ap, subst, arith, true, refl}
 use Rattle.fo_core.specs.declared.syntax.Symbol.{Symbol}
 use Rattle.fo_core.specs.Skolems.{skolem_symbols_list}
 use Rattle.fo_core.specs.SortGraph.{FunctionEdge, ClaimsEdge}
