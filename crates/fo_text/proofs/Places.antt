@@ -1,14 +1,13 @@
 -- From what is read to the places in the bytes.
-use Rattle.std.proofs.Common.{◌≡◌, ℕ, zero, suc, ◌+◌, ◌-◌, ◌^◌, ◌<◌, ◌≤◌, List, [], ◌∷◌, ◌++◌, length, take, drop, Result, Ok, Err, refl, sym, ap, subst, ◌∙◌, append_assoc, length-append, arith}
+use Rattle.std.proofs.Common.{◌≡◌, ℕ, ◌+◌, ◌-◌, ◌^◌, ◌<◌, ◌≤◌, List, [], ◌∷◌, ◌++◌, length, take, drop, Ok, Err, refl, sym, ap, subst, ◌∙◌, append_assoc, length-append, arith}
 use Rattle.std.specs.Prelude.{slice_range}
 use Rattle.std.proofs.lemmas.List.{append-nil, take_rest, take_at, drop_at, drop-drop, length-drop}
 use Rattle.fo_core.specs.declared.syntax.Sig.{Sig}
 use Rattle.fo_core.specs.declared.names.Names.{Names}
 use Rattle.fo_core.specs.declared.world.World.{World}
 use Rattle.fo_core.specs.Sorted.{IsSig}
-use Rattle.fo_text.specs.declared.lines.Line.{Line}
 use Rattle.fo_text.specs.Texts.{NamesEach, text_of, HasText, BeginsText, StopsAt}
-use Rattle.fo_text.specs.Reading.{Read, cut, world_at}
+use Rattle.fo_text.specs.Reading.{cut, world_at}
 use Rattle.fo_text.proofs.Exact.{Exact, FailsBehind, IsFault}
 use Rattle.fo_text.proofs.Whole.{exact_world, world_cut}
 

@@ -1,5 +1,5 @@
 -- The text of a whole world is read exactly.
-use Rattle.std.proofs.Common.{◌≡◌, ℕ, zero, suc, ◌+◌, ◌-◌, ◌^◌, ◌<◌, ◌≤◌, Bool, true, false, cond, List, [], ◌∷◌, ◌++◌, length, get_or, map, codes, Ok, refl, sym, ap, subst, ◌∙◌, append_assoc, arith}
+use Rattle.std.proofs.Common.{◌≡◌, ℕ, ◌-◌, ◌^◌, ◌<◌, ◌≤◌, Bool, true, false, cond, List, [], ◌∷◌, ◌++◌, length, map, codes, Ok, refl, sym, ap, subst, ◌∙◌, append_assoc, arith}
 use Rattle.std.specs.Prelude.{slice_index}
 use Rattle.std.specs.List.{All, AllByRecursion, filter}
 use Rattle.std.proofs.lemmas.List.{map-id}
@@ -9,7 +9,7 @@ use Rattle.fo_core.specs.declared.syntax.Sig.{Sig}
 use Rattle.fo_core.specs.declared.names.Names.{Names}
 use Rattle.fo_core.specs.declared.world.Table.{Table}
 use Rattle.fo_core.specs.declared.world.World.{World}
-use Rattle.fo_core.specs.Tables.{is_like, tuples, arg_sizes, range_of, IsTable, AreTables, Fits}
+use Rattle.fo_core.specs.Tables.{is_like, range_of, IsTable, AreTables}
 use Rattle.fo_core.specs.Sorted.{HasSorts, IsSig}
 use Rattle.fo_text.specs.declared.lines.Line.{Line}
 use Rattle.fo_text.specs.Texts.{NamesEach, names_like, sort_lines, table_lines, copies_text, text_of, HasText}

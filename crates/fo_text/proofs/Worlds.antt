@@ -1,5 +1,5 @@
 -- Tables, sizes, copies and worlds are read exactly.
-use Rattle.std.proofs.Common.{◌≡◌, ℕ, zero, suc, ◌+◌, ◌-◌, ◌*◌, ◌^◌, ◌<◌, ◌≤◌, Bool, true, false, cond, List, [], ◌∷◌, ◌++◌, length, map, flat_map, codes, decimal, Result, Ok, Err, refl, sym, ap, subst, ◌∙◌, append_assoc, arith}
+use Rattle.std.proofs.Common.{◌≡◌, ℕ, zero, suc, ◌+◌, ◌-◌, ◌^◌, ◌<◌, ◌≤◌, cond, List, [], ◌∷◌, ◌++◌, length, map, flat_map, codes, decimal, Result, Ok, Err, refl, sym, ap, subst, ◌∙◌, append_assoc, arith}
 use Rattle.std.specs.Prelude.{⊤}
 use Rattle.std.specs.List.{AllByRecursion}
 use Rattle.std.proofs.Math.Dec.{eqb-suc-zero}
@@ -9,7 +9,7 @@ use Rattle.fo_core.specs.declared.world.World.{World}
 use Rattle.fo_text.specs.declared.lines.Line.{Line}
 use Rattle.fo_text.specs.Texts.{after_space, table_line, table_lines, sort_line, sort_lines, copy_text, copies_text}
 use Rattle.fo_text.specs.Reading.{Read, ◌>>=◌, literal_at, number_at, values_at, table_at, tables_at, copy_at, copies_at, size_at, sizes_at, count_at, tables_of}
-use Rattle.fo_text.proofs.Exact.{Exact, bind_assoc, exact_done, exact_map, exact_then, exact_after, exact_words, exact_pair, seen}
+use Rattle.fo_text.proofs.Exact.{Exact, exact_done, exact_map, exact_then, exact_after, exact_words, exact_pair, seen}
 use Rattle.fo_text.proofs.Numbers.{Bounds, exact_number}
 
 abbrev InRange : ℕ → ℕ → ℕ → Type 0

@@ -68,6 +68,35 @@ fn leaders(alloc: Global) -> Result<(Sig, Names), AllocError> {
 const HELD: &str =
     "world 3\nsort node 2\nfixed\ncopy 0\nheld 0 0\ncopy 1\nheld 0 1\ncopy 2\nheld 1 1\nend\n";
 
+const TWO_AND_ONE: [&str; 2] = [
+    "world 1\nsort node 2\nfixed\ncopy 0\np 0 1\nend\n",
+    "world 1\nsort node 1\nfixed\ncopy 0\np 0\nend\n",
+];
+
+const BITS: &str =
+    "world 4\nfixed\ncopy 0\nb0 0\nb1 0\ncopy 1\nb0 1\nb1 0\ncopy 2\nb0 0\nb1 1\ncopy 3\nb0 1\nb1 1\nend\n";
+
+const LEADERS: &str =
+    "world 3\nsort node 2\nsort id 2\nfixed\nidn 0 1\ncopy 0\nlead 0 0\ncopy 1\nlead 1 0\ncopy 2\nlead 1 1\nend\n";
+
+/// Texts of a relation `held` that stop being one, and where.
+const FAULTS: [(&str, u32); 9] = [
+    // no copy, and too many of them
+    ("world 0\n", 6),
+    ("world 4294967296\n", 15),
+    // too large a sort, an empty one, and a leading zero
+    ("world 1\nsort node 4294967296\n", 27),
+    ("world 1\nsort node 0\n", 18),
+    ("world 1\nsort node 01\n", 18),
+    // a table that ends too early
+    ("world 1\nsort node 4294967295\nfixed\ncopy 0\nheld 0\n", 48),
+    // a value out of range, and a leading zero
+    ("world 1\nsort node 2\nfixed\ncopy 0\nheld 0 2\n", 40),
+    ("world 1\nsort node 2\nfixed\ncopy 0\nheld 00\n", 39),
+    // another copy's number
+    ("world 1\nsort node 2\nfixed\ncopy 1\n", 31),
+];
+
 /// Reads the text, behind one byte and before another, and writes it again.
 fn is_read_and_written(
     rt: &impl Abort,
@@ -114,29 +143,26 @@ fn place_of_fault(
 }
 
 #[test]
-fn worlds_are_read_and_written(rt: HostRuntime) -> Result<(), Fail> {
+fn worlds_of_a_relation(rt: HostRuntime) -> Result<(), Fail> {
     let alloc = rt.alloc();
-    let held = one_relation(alloc, "held")?;
-    is_read_and_written(&rt, alloc, &held, HELD)?;
-    let bits = two_bits(alloc)?;
-    is_read_and_written(
-        &rt,
-        alloc,
-        &bits,
-        "world 4\nfixed\ncopy 0\nb0 0\nb1 0\ncopy 1\nb0 1\nb1 0\ncopy 2\nb0 0\nb1 1\ncopy 3\nb0 1\nb1 1\nend\n",
-    )?;
+    is_read_and_written(&rt, alloc, &one_relation(alloc, "held")?, HELD)?;
     let p = one_relation(alloc, "p")?;
-    let two = "world 1\nsort node 2\nfixed\ncopy 0\np 0 1\nend\n";
-    is_read_and_written(&rt, alloc, &p, two)?;
-    let one = "world 1\nsort node 1\nfixed\ncopy 0\np 0\nend\n";
-    is_read_and_written(&rt, alloc, &p, one)?;
-    let leads = leaders(alloc)?;
-    is_read_and_written(
-        &rt,
-        alloc,
-        &leads,
-        "world 3\nsort node 2\nsort id 2\nfixed\nidn 0 1\ncopy 0\nlead 0 0\ncopy 1\nlead 1 0\ncopy 2\nlead 1 1\nend\n",
-    )
+    for text in &TWO_AND_ONE {
+        is_read_and_written(&rt, alloc, &p, text)?;
+    }
+    Ok(())
+}
+
+#[test]
+fn worlds_of_propositions(rt: HostRuntime) -> Result<(), Fail> {
+    let alloc = rt.alloc();
+    is_read_and_written(&rt, alloc, &two_bits(alloc)?, BITS)
+}
+
+#[test]
+fn worlds_with_a_fixed_function(rt: HostRuntime) -> Result<(), Fail> {
+    let alloc = rt.alloc();
+    is_read_and_written(&rt, alloc, &leaders(alloc)?, LEADERS)
 }
 
 #[test]
@@ -183,39 +209,12 @@ fn a_cut_text_is_bad_at_its_end(rt: HostRuntime) -> Result<(), Fail> {
 fn faults_are_the_first(rt: HostRuntime) -> Result<(), Fail> {
     let alloc = rt.alloc();
     let held = one_relation(alloc, "held")?;
-    let place = |text: &str| place_of_fault(&rt, alloc, &held, text.as_bytes());
-    assert_eq!(rt; place("world 0\n"), Some(6), "no copy");
-    assert_eq!(rt; place("world 4294967296\n"), Some(15), "too many copies");
-    assert_eq!(rt;
-        place("world 1\nsort node 4294967296\n"),
-        Some(27),
-        "too large a sort"
-    );
-    assert_eq!(rt;
-        place("world 1\nsort node 4294967295\nfixed\ncopy 0\nheld 0\n"),
-        Some(48),
-        "a table too short"
-    );
-    assert_eq!(rt; place("world 1\nsort node 0\n"), Some(18), "an empty sort");
-    assert_eq!(rt;
-        place("world 1\nsort node 01\n"),
-        Some(18),
-        "a leading zero"
-    );
-    assert_eq!(rt;
-        place("world 1\nsort node 2\nfixed\ncopy 0\nheld 0 2\n"),
-        Some(40),
-        "a value out of range"
-    );
-    assert_eq!(rt;
-        place("world 1\nsort node 2\nfixed\ncopy 0\nheld 00\n"),
-        Some(39),
-        "a leading zero"
-    );
-    assert_eq!(rt;
-        place("world 1\nsort node 2\nfixed\ncopy 1\n"),
-        Some(31),
-        "another copy"
-    );
+    for (text, place) in &FAULTS {
+        assert_eq!(rt;
+            place_of_fault(&rt, alloc, &held, text.as_bytes()),
+            Some(*place),
+            "{text}"
+        );
+    }
     Ok(())
 }

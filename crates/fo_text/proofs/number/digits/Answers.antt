@@ -1,6 +1,5 @@
-use Rattle.std.proofs.Common.{◌≡◌, ◌≤◌, ◌<◌, ℕ, ◌+◌, List, length, drop, sym, ap, ◌∙◌, Ok, arith}
+use Rattle.std.proofs.Common.{ℕ, ◌+◌, List, sym, ap, ◌∙◌, Ok}
 use Rattle.std.proofs.lemmas.List.{take_rest}
-use Rattle.fo_text.specs.Reading.{digits_at}
 use Rattle.fo_text.proofs.Loops.{digits_ended, digits_step, digits_refused, digits_short}
 use Rattle.fo_text.proofs.number.digits.Goals as goal
 

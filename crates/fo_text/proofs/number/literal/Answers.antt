@@ -1,6 +1,5 @@
-use Rattle.std.proofs.Common.{◌≡◌, ◌≤◌, ◌<◌, ℕ, ◌+◌, List, length, drop, sym, ap, ◌∙◌, Ok, arith}
+use Rattle.std.proofs.Common.{◌≡◌, ℕ, List, length, drop, sym, ap, ◌∙◌, Ok, arith}
 use Rattle.std.proofs.lemmas.List.{take_rest}
-use Rattle.fo_text.specs.Reading.{literal_at}
 use Rattle.fo_text.proofs.Loops.{literal_short, literal_step, literal_other, literal_end}
 use Rattle.fo_text.proofs.number.literal.Goals as goal
 

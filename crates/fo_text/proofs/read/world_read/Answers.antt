@@ -1,4 +1,4 @@
-use Rattle.std.proofs.Common.{◌≡◌, ℕ, List, length, ap, sym, ◌∙◌, length-drop, length-append, arith}
+use Rattle.std.proofs.Common.{ℕ, List, ap, sym, ◌∙◌, arith}
 use Rattle.fo_core.specs.declared.world.World.{World}
 use Rattle.fo_text.proofs.Exact.{ok_is}
 use Rattle.fo_text.proofs.Places.{is_taken, is_read, is_stopped}

@@ -1,4 +1,4 @@
-use Rattle.std.proofs.Common.{◌≡◌, ◌-◌, drop}
+use Rattle.std.proofs.Common.{◌≡◌, ◌-◌}
 use Rattle.fo_text.specs.Reading.{copies_at}
 use Rattle.fo_text.proofs.Loops.{with_front}
 use Rattle.fo_text.proofs.reading.read_copies.Given as goal

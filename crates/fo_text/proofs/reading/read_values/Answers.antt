@@ -1,7 +1,7 @@
-use Rattle.std.proofs.Common.{◌≡◌, ℕ, ◌+◌, ◌-◌, List, ◌++◌, ◌∷◌, [], drop, ap}
+use Rattle.std.proofs.Common.{◌+◌, ◌-◌}
 use Rattle.std.proofs.lemmas.Result.{err_from_is_err_and}
 use Rattle.fo_text.specs.Reading.{number_at, values_at}
-use Rattle.fo_text.proofs.Loops.{with_front, list_step, list_ends, list_done, values_step, values_none}
+use Rattle.fo_text.proofs.Loops.{list_step, list_ends, list_done, values_step, values_none}
 use Rattle.fo_text.proofs.reading.read_values.Goals as goal
 
 pub returns-in_err-value : goal.returns-in_err-value
