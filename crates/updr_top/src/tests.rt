@@ -78,6 +78,11 @@ fn words_of(alloc: Global, words: &[&str]) -> Result<Vec<String>, AllocError> {
     Ok(all)
 }
 
+/// A text of so many letters.
+fn text_of(alloc: Global, len: usize) -> Result<Vec<u8>, AllocError> {
+    vec![in alloc; b'a'; len]
+}
+
 /// The status and the texts of `out` and `err` of a check of these contents.
 fn checked(
     alloc: Global,
@@ -119,7 +124,7 @@ fn other_forms_are_refused(rt: HostRuntime) -> Result<(), Fail> {
     assert_eq!(rt; status, 19);
     assert_eq!(rt; out.bytes(), b"".as_slice());
     assert_eq!(rt; err.bytes(), b"updr: not built yet: A\n".as_slice());
-    let (status, _, err) = checked(alloc, MODEL, &RUN[..100])?;
+    let (status, _, err) = checked(alloc, MODEL, b"report 1\nverdict unsafe 2\n")?;
     assert_eq!(rt; status, 19);
     assert_eq!(rt; err.bytes(), b"updr: not built yet: R\n".as_slice());
     Ok(())
@@ -144,7 +149,7 @@ fn files_that_are_not_read(rt: HostRuntime) -> Result<(), Fail> {
     let alloc = rt.alloc();
     let mut files = MemFiles::new(alloc)?;
     files.add("A", MODEL)?;
-    files.add("long", &vec![in alloc; 97; 1_048_577]?)?;
+    files.add("long", &text_of(alloc, 1_048_577)?)?;
     let lines: [(&[&str], &[u8]); 3] = [
         (&["check", "A", "R"], b"updr: cannot read R\n"),
         (&["check", "B", "R"], b"updr: cannot read B\n"),
