@@ -5,6 +5,8 @@
   random V C SEED        C clauses of three literals over V variables
   chain N                N implications behind a clause of one literal
   many N V C SEED        N formulas as `random` writes them, one behind the other
+  first V C SEED         the same formula, with its first clause proposed behind it
+  implied N M            N implications in a row, and M proposed ones that follow in three steps
 """
 import random
 import sys
@@ -36,6 +38,17 @@ def chain(count):
     return count + 1, [[1]] + [[-at, at + 1] for at in range(1, count + 1)]
 
 
+def implied(count, proposed):
+    clauses = [[-at, at + 1] for at in range(1, count + 1)]
+    starts = (at % (count - 2) + 1 for at in range(proposed))
+    return (count + 1, clauses), [[-at, at + 3] for at in starts]
+
+
+def propose(clauses):
+    for clause in clauses:
+        print("a", *clause, 0)
+
+
 def write(formula):
     variables, clauses = formula
     print("p cnf", variables, len(clauses))
@@ -57,6 +70,14 @@ def main():
         count, variables, clauses, seed = numbers
         for at in range(count):
             write(drawn(variables, clauses, seed + at))
+    elif kind == "first":
+        formula = drawn(*numbers)
+        write(formula)
+        propose(formula[1][:1])
+    elif kind == "implied":
+        formula, proposed = implied(*numbers)
+        write(formula)
+        propose(proposed)
     else:
         sys.exit(__doc__)
 

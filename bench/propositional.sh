@@ -38,6 +38,23 @@ compare "100,000 implications" chain 100000
 for size in 50000 100000 200000; do
     compare "random $size/$((size * 2))" random "$size" $((size * 2)) 1
 done
+# The same of `Checked` alone: what is kept is made, and a clause of the formula is taken. Reading is in it.
+check() {
+    local name=$1
+    shift
+    python3 bench/propositional.py "$@" >"$work/formula"
+    printf '%-28s ours %7s s %s\n' "$name" "$(seconds "$ours" <"$work/formula")" "$(cat "$work/out")"
+}
+for size in 25000 50000 100000 200000; do
+    check "first of $size clauses" first "$size" "$size" 1
+done
+# Clauses that follow near where they stand: no pass over all clauses, but one over the values, for each.
+for count in 2500 5000 10000 20000; do
+    check "$count among 10000" implied 10000 "$count"
+done
+for size in 5000 20000 40000; do
+    check "10000 among $size" implied "$size" 10000
+done
 # minisat reads one formula a run, so the figure is ours alone.
 python3 bench/propositional.py many 10000 50 200 1 >"$work/formula"
 printf '%-28s ours %7s s\n' "10,000 of 50/200" "$(seconds "$ours" <"$work/formula")"
