@@ -49,6 +49,12 @@ goes_on_if most n b e =
     let z = eqb-false n 0 (not_true (eqb n 0) q.0) in
     record { some = omega arith; low = leb-true _ _ r.0; high = leb-true _ _ r.1; most_is = leb-true _ _ p.1 }
 
+pub stays_in_range : (most n b : ℕ) → goes_on most n b ≡ true → 10 * n + (b - 48) ≤ most
+stays_in_range most n b e = (goes_on_if most n b e).most_is
+
+pub begins_in_range : (least most b : ℕ) → begins_number least most b ≡ true → b - 48 ≤ most
+begins_in_range least most b e = (begins_if least most b e).most_is
+
 if_goes_on : (most n b : ℕ) → GoesOn most n b → goes_on most n b ≡ true
 if_goes_on most n b h =
     let z : eqb n 0 ≡ false = ne_eqb n 0 (λ e. omega arith) in

@@ -1,9 +1,10 @@
-ghost use Rattle.std.specs.Prelude.{◌≡◌, ◌≤◌};
+ghost use Rattle.std.specs.Prelude.{◌≡◌, ◌≤◌, IfOk};
 ghost use Rattle.fo_text.specs.Reading.{Gives, literal_at, begins_number, goes_on, digits_at, number_at};
 
 use crate::halt::Halt;
 
-/// Reads this text: what stands behind it.
+/// Reads this text from the front of the bytes, and answers what stands behind it. A fault tells
+/// how many bytes are left where they differ from the text first, or end.
 pub fn literal<'a>(bytes: &'a [u8], text: &[u8]) -> Result<&'a [u8], Halt>
     ensures { Gives (λ rest. rest.now) result (literal_at text.now bytes.now) }
 {
@@ -19,29 +20,31 @@ pub fn literal<'a>(bytes: &'a [u8], text: &[u8]) -> Result<&'a [u8], Halt>
 }
 
 /// Whether the byte begins a number from `least`, which is 0 or 1, to `most`.
-fn begins(least: u32, most: u32, byte: u8) -> bool
+fn begins(least: u64, most: u64, byte: u8) -> bool
     ensures { result ≡ begins_number least most byte }
 {
     if !byte.is_ascii_digit() {
         return false;
     }
-    let digit = u32::from(byte - b'0');
+    let digit = u64::from(byte - b'0');
     least <= digit && digit <= most
 }
 
 /// Whether the byte is a digit by which the number goes on to one up to `most`.
-fn continues(most: u32, number: u32, byte: u8) -> bool
+fn continues(most: u64, number: u64, byte: u8) -> bool
     ensures { result ≡ goes_on most number byte }
 {
     if number == 0 || !byte.is_ascii_digit() {
         return false;
     }
-    10 * u64::from(number) + u64::from(byte - b'0') <= u64::from(most)
+    10 * u128::from(number) + u128::from(byte - b'0') <= u128::from(most)
 }
 
 /// Reads the other digits of a number, up to the byte that ends it.
-fn digits(bytes: &[u8], first: u32, most: u32, ending: u8) -> Result<(u32, &[u8]), Halt>
-    ensures { Gives (λ x. (x.0, x.1.now)) result (digits_at most ending first bytes.now) }
+fn digits(bytes: &[u8], first: u64, most: u64, ending: u8) -> Result<(u64, &[u8]), Halt>
+    requires { first ≤ most }
+    ensures read { Gives (λ x. (x.0, x.1.now)) result (digits_at most ending first bytes.now) }
+    ensures range { IfOk result (λ x. x.0 ≤ most) }
 {
     let mut number = first;
     'each: for (i, byte) in bytes.iter().enumerate() {
@@ -51,14 +54,18 @@ fn digits(bytes: &[u8], first: u32, most: u32, ending: u8) -> Result<(u32, &[u8]
         if !continues(most, number, *byte) {
             return Err(Halt::Fault(bytes.len() - i));
         }
-        number = 10 * number + u32::from(*byte - b'0');
+        number = 10 * number + u64::from(*byte - b'0');
     }
     Err(Halt::Fault(0))
 }
 
-/// Reads a number from `least`, which is 0 or 1, to `most`, and the byte that ends it.
-pub fn number(bytes: &[u8], least: u32, most: u32, ending: u8) -> Result<(u32, &[u8]), Halt>
-    ensures { Gives (λ x. (x.0, x.1.now)) result (number_at least most ending bytes.now) }
+/// Reads a decimal number from `least`, which is 0 or 1, to `most`, without leading zeros, and the
+/// byte that ends it, from the front of the bytes. It answers the number and what stands behind
+/// that byte. A fault tells how many bytes are left at the first one by which no such number goes
+/// on.
+pub fn number(bytes: &[u8], least: u64, most: u64, ending: u8) -> Result<(u64, &[u8]), Halt>
+    ensures read { Gives (λ x. (x.0, x.1.now)) result (number_at least most ending bytes.now) }
+    ensures range { IfOk result (λ x. x.0 ≤ most) }
 {
     if bytes.is_empty() {
         return Err(Halt::Fault(0));
@@ -67,5 +74,13 @@ pub fn number(bytes: &[u8], least: u32, most: u32, ending: u8) -> Result<(u32, &
     if !begins(least, most, first) {
         return Err(Halt::Fault(bytes.len()));
     }
-    digits(&bytes[1..], u32::from(first - b'0'), most, ending)
+    digits(&bytes[1..], u64::from(first - b'0'), most, ending)
+}
+
+/// The same for a number of 32 bits.
+pub fn short_number(bytes: &[u8], least: u32, most: u32, ending: u8) -> Result<(u32, &[u8]), Halt>
+    ensures { Gives (λ x. (x.0, x.1.now)) result (number_at least most ending bytes.now) }
+{
+    let (number, rest) = number(bytes, u64::from(least), u64::from(most), ending)?;
+    Ok((number as u32, rest))
 }

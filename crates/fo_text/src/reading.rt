@@ -6,7 +6,7 @@ ghost use Rattle.fo_text.specs.Reading.{Gives, values_at, table_at, tables_at, c
 
 use crate::halt::Halt;
 use crate::lines::{Line, symbol_lines};
-use crate::number::{literal, number};
+use crate::parts::{literal, short_number};
 use fo_core::{Names, Seq, Sig, Table, Text, World};
 use itoa::Buffer;
 use std::alloc::Global;
@@ -30,7 +30,7 @@ fn read_values(
     let mut values = Seq::new(alloc);
     let mut rest = bytes;
     'each: for i in 0..entries {
-        let (value, after) = number(rest, 0, most, ending(entries - i - 1))?;
+        let (value, after) = short_number(rest, 0, most, ending(entries - i - 1))?;
         values.push(value)?;
         rest = after;
     }
@@ -110,7 +110,7 @@ fn read_size<'a>(name: &Text, bytes: &'a [u8]) -> Result<(u32, &'a [u8]), Halt>
     let rest = literal(bytes, b"sort ")?;
     let rest = literal(rest, name.as_str().as_bytes())?;
     let rest = literal(rest, b" ")?;
-    number(rest, 1, u32::MAX, b'\n')
+    short_number(rest, 1, u32::MAX, b'\n')
 }
 
 /// Reads the lines of the sorts of these names.
@@ -137,7 +137,7 @@ fn read_count(bytes: &[u8]) -> Result<(u32, &[u8]), Halt>
     ensures { Gives (λ x. (x.0, x.1.now)) result (count_at bytes.now) }
 {
     let rest = literal(bytes, b"world ")?;
-    number(rest, 1, u32::MAX, b'\n')
+    short_number(rest, 1, u32::MAX, b'\n')
 }
 
 /// Reads what stands behind the sizes, where the symbols have these lines.

@@ -1,19 +1,24 @@
 use Rattle.std.proofs.Common.{ℕ, ◌+◌, List, sym, ap, ◌∙◌, Ok}
 use Rattle.std.proofs.lemmas.List.{take_rest}
 use Rattle.fo_text.proofs.Loops.{digits_ended, digits_step, digits_refused, digits_short}
-use Rattle.fo_text.proofs.number.digits.Goals as goal
+use Rattle.fo_text.proofs.Numbers.{stays_in_range}
+use Rattle.fo_text.proofs.parts.digits.Goals as goal
 
-pub returns-then-byte-ending : goal.returns-then-byte-ending
-returns-then-byte-ending c =
-    sym c.each.invariant ∙ digits_ended c.args.most c.args.ending c.each.number c.args.bytes.now c.each.i c.each-test.true c.if-byte-ending.true ∙ sym (ap (λ (l : List ℕ). Ok (c.each.number, l)) (take_rest c.args.bytes.now (c.each.i + 1)))
+pub returns-then-byte-ending-clause-read : goal.returns-then-byte-ending-clause-read
+returns-then-byte-ending-clause-read c =
+    sym c.each.invariant.same ∙ digits_ended c.args.most c.args.ending c.each.number c.args.bytes.now c.each.i c.each-test.true c.if-byte-ending.true ∙ sym (ap (λ (l : List ℕ). Ok (c.each.number, l)) (take_rest c.args.bytes.now (c.each.i + 1)))
 
-pub returns-then-not-continues : goal.returns-then-not-continues
-returns-then-not-continues c =
-    sym c.each.invariant ∙ digits_refused c.args.most c.args.ending c.each.number c.args.bytes.now c.each.i c.each-test.true c.if-byte-ending.false (sym c.continues.ensures ∙ c.if-not-continues.true)
+pub returns-then-not-continues-clause-read : goal.returns-then-not-continues-clause-read
+returns-then-not-continues-clause-read c =
+    sym c.each.invariant.same ∙ digits_refused c.args.most c.args.ending c.each.number c.args.bytes.now c.each.i c.each-test.true c.if-byte-ending.false (sym c.continues.ensures ∙ c.if-not-continues.true)
 
 pub each-preserved : goal.each-preserved
 each-preserved c =
-    rw c.from.ensures (sym (digits_step c.args.most c.args.ending c.each.number c.args.bytes.now c.each.i c.each-test.true c.if-byte-ending.false (sym c.continues.ensures ∙ c.if-not-continues.false)) ∙ c.each.invariant)
+    let on = sym c.continues.ensures ∙ c.if-not-continues.false in
+    record {
+      same = rw c.from.ensures (sym (digits_step c.args.most c.args.ending c.each.number c.args.bytes.now c.each.i c.each-test.true c.if-byte-ending.false on) ∙ c.each.invariant.same);
+      range = rw c.from.ensures (stays_in_range c.args.most c.each.number _ on);
+    }
 
-pub returns : goal.returns
-returns c = sym c.each.invariant ∙ digits_short c.args.most c.args.ending c.each.number c.args.bytes.now c.each.i c.each-test.false
+pub returns-clause-read : goal.returns-clause-read
+returns-clause-read c = sym c.each.invariant.same ∙ digits_short c.args.most c.args.ending c.each.number c.args.bytes.now c.each.i c.each-test.false

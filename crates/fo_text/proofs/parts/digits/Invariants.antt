@@ -1,6 +1,10 @@
-use Rattle.std.proofs.Common.{◌≡◌, drop}
+use Rattle.std.proofs.Common.{◌≡◌, ◌≤◌, ℕ, List, drop}
 use Rattle.fo_text.specs.Reading.{digits_at}
-use Rattle.fo_text.proofs.number.digits.Given as goal
+use Rattle.fo_text.proofs.parts.digits.Given as goal
+
+pub record SoFar (first most ending number : ℕ) (bytes rest : List ℕ) : Type 0 where
+  pub same : digits_at most ending number rest ≡ digits_at most ending first bytes
+  pub range : number ≤ most
 
 abbrev pub invariant-each : goal.invariant-each
-invariant-each l = digits_at l.most l.ending l.number (drop l.i l.bytes) ≡ digits_at l.most l.ending l.first l.bytes
+invariant-each l = SoFar l.first l.most l.ending l.number l.bytes (drop l.i l.bytes)

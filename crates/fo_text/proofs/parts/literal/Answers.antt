@@ -1,7 +1,7 @@
 use Rattle.std.proofs.Common.{◌≡◌, ℕ, List, length, drop, sym, ap, ◌∙◌, Ok, arith}
 use Rattle.std.proofs.lemmas.List.{take_rest}
 use Rattle.fo_text.proofs.Loops.{literal_short, literal_step, literal_other, literal_end}
-use Rattle.fo_text.proofs.number.literal.Goals as goal
+use Rattle.fo_text.proofs.parts.literal.Goals as goal
 
 pub returns-then-i-bytes : goal.returns-then-i-bytes
 returns-then-i-bytes c = sym c.each.invariant.same ∙ literal_short c.args.text.now c.args.bytes.now c.each.i c.each-test.true c.if-i-bytes.true

@@ -1,6 +1,6 @@
 use Rattle.std.proofs.Common.{◌≡◌, ◌≤◌, ℕ, List, drop, length}
 use Rattle.fo_text.specs.Reading.{literal_at}
-use Rattle.fo_text.proofs.number.literal.Given as goal
+use Rattle.fo_text.proofs.parts.literal.Given as goal
 
 pub record SoFar (text bytes : List ℕ) (i : ℕ) : Type 0 where
   pub within : i ≤ length bytes
