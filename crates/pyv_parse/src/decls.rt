@@ -1,0 +1,178 @@
+use crate::exprs::expr;
+use crate::halt::Halt;
+use crate::lists::{closed_bounds, closed_names, name, names, some_names};
+use crate::reader::{bad, eat, wants};
+use fo_core::Seq;
+use pv_base::Span;
+use pyv_grammar::{Decl, Expr, Found};
+use pyv_lex::{Kind, Token};
+use std::alloc::Global;
+
+/// How deep expressions may be nested.
+const MOST_NESTING: u32 = 200;
+
+/// How high `<->` and `if` may stand in each other.
+const MOST_HEIGHT: u32 = 6;
+
+/// A declaration.
+pub(crate) fn decl(alloc: Global, tokens: &[Token]) -> Result<(Decl, &[Token]), Halt> {
+    if let Some((_, rest)) = eat(tokens, Kind::Sort) {
+        return sort(rest);
+    }
+    if let Some((_, rest)) = eat(tokens, Kind::Mutable) {
+        return symbol(alloc, true, rest);
+    }
+    if let Some((_, rest)) = eat(tokens, Kind::Immutable) {
+        return symbol(alloc, false, rest);
+    }
+    if let Some((_, rest)) = eat(tokens, Kind::Transition) {
+        return transition(alloc, rest);
+    }
+    if let Some((_, rest)) = eat(tokens, Kind::Sat) {
+        return trace(rest);
+    }
+    if let Some((_, rest)) = eat(tokens, Kind::Unsat) {
+        return trace(rest);
+    }
+    claim(alloc, tokens)
+}
+
+/// What follows `sort`.
+fn sort(tokens: &[Token]) -> Result<(Decl, &[Token]), Halt> {
+    let (sort, rest) = name(tokens)?;
+    Ok((Decl::Sort(sort), rest))
+}
+
+/// What follows `mutable` or `immutable`.
+fn symbol(alloc: Global, mutable: bool, tokens: &[Token]) -> Result<(Decl, &[Token]), Halt> {
+    if let Some((_, rest)) = eat(tokens, Kind::Relation) {
+        return relation(alloc, mutable, rest);
+    }
+    if let Some((_, rest)) = eat(tokens, Kind::Constant) {
+        return constant(mutable, rest);
+    }
+    let (_, rest) = wants(tokens, Kind::Function)?;
+    function(alloc, mutable, rest)
+}
+
+/// What follows `relation`.
+fn relation(alloc: Global, mutable: bool, tokens: &[Token]) -> Result<(Decl, &[Token]), Halt> {
+    let (symbol, rest) = name(tokens)?;
+    let Some((_, after)) = eat(rest, Kind::RoundLeft) else {
+        return Ok((Decl::Relation(mutable, symbol, Seq::new(alloc)), rest));
+    };
+    let (args, rest) = closed_names(alloc, after)?;
+    Ok((Decl::Relation(mutable, symbol, args), rest))
+}
+
+/// What follows `constant`.
+fn constant(mutable: bool, tokens: &[Token]) -> Result<(Decl, &[Token]), Halt> {
+    let (symbol, rest) = name(tokens)?;
+    let (_, rest) = wants(rest, Kind::Colon)?;
+    let (sort, rest) = name(rest)?;
+    Ok((Decl::Constant(mutable, symbol, sort), rest))
+}
+
+/// What follows `function`.
+fn function(alloc: Global, mutable: bool, tokens: &[Token]) -> Result<(Decl, &[Token]), Halt> {
+    let (symbol, rest) = name(tokens)?;
+    let (_, rest) = wants(rest, Kind::RoundLeft)?;
+    let (args, rest) = some_names(alloc, rest)?;
+    let (_, rest) = wants(rest, Kind::Colon)?;
+    let (sort, rest) = name(rest)?;
+    Ok((Decl::Function(mutable, symbol, args, sort), rest))
+}
+
+/// What follows `transition`.
+fn transition(alloc: Global, tokens: &[Token]) -> Result<(Decl, &[Token]), Halt> {
+    let (symbol, rest) = name(tokens)?;
+    let (_, rest) = wants(rest, Kind::RoundLeft)?;
+    let (parameters, rest) = closed_bounds(alloc, rest)?;
+    let (modified, rest) = modifies(alloc, rest)?;
+    let (found, rest) = body(alloc, rest)?;
+    Ok((
+        Decl::Transition(symbol, parameters, modified, found.tree),
+        rest,
+    ))
+}
+
+/// The symbols that a transition may modify.
+fn modifies(alloc: Global, tokens: &[Token]) -> Result<(Seq<Span>, &[Token]), Halt> {
+    match eat(tokens, Kind::Modifies) {
+        Some((_, rest)) => names(alloc, rest),
+        None => Ok((Seq::new(alloc), tokens)),
+    }
+}
+
+/// An expression within the limits.
+fn body(alloc: Global, tokens: &[Token]) -> Result<(Found, &[Token]), Halt> {
+    expr(alloc, tokens, MOST_NESTING, MOST_HEIGHT)
+}
+
+/// A declaration of an expression.
+fn claim(alloc: Global, tokens: &[Token]) -> Result<(Decl, &[Token]), Halt> {
+    if let Some((_, rest)) = eat(tokens, Kind::Axiom) {
+        let (tree, rest) = labelled(alloc, rest)?;
+        return Ok((Decl::Axiom(tree), rest));
+    }
+    if let Some((_, rest)) = eat(tokens, Kind::Init) {
+        let (tree, rest) = labelled(alloc, rest)?;
+        return Ok((Decl::Init(tree), rest));
+    }
+    if let Some((_, rest)) = eat(tokens, Kind::Safety) {
+        let (tree, rest) = labelled(alloc, rest)?;
+        return Ok((Decl::Safety(tree), rest));
+    }
+    let (_, rest) = wants(tokens, Kind::Invariant)?;
+    let (tree, rest) = labelled(alloc, rest)?;
+    Ok((Decl::Invariant(tree), rest))
+}
+
+/// An expression, and maybe a label before it.
+fn labelled(alloc: Global, tokens: &[Token]) -> Result<(Expr, &[Token]), Halt> {
+    let (found, rest) = body(alloc, label(tokens)?)?;
+    Ok((found.tree, rest))
+}
+
+/// The tokens behind a label, where one stands at their front.
+fn label(tokens: &[Token]) -> Result<&[Token], Halt> {
+    let Some((_, rest)) = eat(tokens, Kind::SquareLeft) else {
+        return Ok(tokens);
+    };
+    let (_, rest) = wants(rest, Kind::Word)?;
+    let (_, rest) = wants(rest, Kind::SquareRight)?;
+    Ok(rest)
+}
+
+/// What follows `sat` or `unsat`.
+fn trace(tokens: &[Token]) -> Result<(Decl, &[Token]), Halt> {
+    let (_, rest) = wants(tokens, Kind::Trace)?;
+    let (_, rest) = wants(rest, Kind::CurlyLeft)?;
+    Ok((Decl::Trace, behind_brace(rest)?))
+}
+
+/// The tokens behind the curly bracket that closes one before them.
+fn behind_brace(tokens: &[Token]) -> Result<&[Token], Halt> {
+    let mut open = 0;
+    let mut rest = tokens;
+    'tokens: while let Some((_, after)) = rest.split_first() {
+        let Some(next) = open_behind(rest, open) else {
+            return Ok(after);
+        };
+        open = next;
+        rest = after;
+    }
+    Err(bad(rest))
+}
+
+/// How many curly brackets are open besides the first behind the first token, where so many are open
+/// before it. There is none where it closes the first.
+fn open_behind(tokens: &[Token], open: usize) -> Option<usize> {
+    if eat(tokens, Kind::CurlyLeft).is_some() {
+        return Some(open + 1);
+    }
+    if eat(tokens, Kind::CurlyRight).is_none() {
+        return Some(open);
+    }
+    open.checked_sub(1)
+}
