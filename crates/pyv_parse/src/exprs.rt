@@ -1,29 +1,33 @@
+ghost use Rattle.std.specs.Prelude.{◌+◌, ◌<◌, ◌≤◌, ◌^◌, IfOk, length, nat_lt};
+ghost use Rattle.pyv_grammar.specs.Grammar.{Atom, Unary, Imps, Exprs};
+ghost use Rattle.pyv_grammar.specs.Reading.{read, deep, joined, all_separated, ends_open, negation_at, quantified_at, conditional_at, comparison_at, named_at, new_at, distinct_at, bracketed_at, some_list};
+ghost use Rattle.pyv_parse.specs.Gives.{Gives, gathered, put_member, no_members, sign_of, operand_of, node_for, quantifier_of};
+
 use crate::halt::Halt;
 use crate::lists::bounds;
-use crate::members::{Connective, Members};
+use crate::members::{Connective, Members, join, no_members, put, sign};
+use crate::nodes::{
+    after_step, closed, conditional, equality, equivalence, implication, inequality, negation,
+    quantified,
+};
 use crate::reader::{bad, deeper, eat, skip, too_deep, wants};
-use fo_core::{Boxed, Seq};
-use pyv_grammar::{Bound, Expr, Found};
+use fo_core::Seq;
+use pyv_grammar::{Expr, Found};
 use pyv_lex::{Kind, Token};
 use std::alloc::Global;
 
-/// An expression that ends with no open body.
-fn closed(tree: Expr, height: u32) -> Found {
-    Found {
-        tree,
-        ends_open: false,
-        height,
-    }
-}
-
 /// An expression.
+#[cycle(expressions)]
 pub(crate) fn expr(
     alloc: Global,
     tokens: &[Token],
     room: u32,
     height: u32,
-) -> Result<(Found, &[Token]), Halt> {
-    let (left, rest) = implication(alloc, tokens, room, height)?;
+) -> Result<(Found, &[Token]), Halt>
+    ensures gives { Gives (λ x. (x.0, x.1.now)) result (read room height Exprs tokens.now) }
+    ensures within { IfOk result (λ x. (length x.1.now < length tokens.now) × (x.0.height ≤ height)) }
+{
+    let (left, rest) = without_iff(alloc, tokens, room, height)?;
     if left.ends_open {
         return Ok((left, rest));
     }
@@ -33,33 +37,21 @@ pub(crate) fn expr(
     if left.height >= height {
         return Err(too_deep(rest));
     }
-    let (right, rest) = implication(alloc, after, room, height - 1)?;
-    let height = left.height.max(right.height) + 1;
-    let ends_open = right.ends_open;
-    let (left, right) = boxed(alloc, left, right)?;
-    let tree = Expr::Iff(sign.span.from, left, right);
-    let found = Found {
-        tree,
-        ends_open,
-        height,
-    };
-    Ok((found, rest))
+    let (right, rest) = without_iff(alloc, after, room, height - 1)?;
+    Ok((equivalence(alloc, sign, left, right)?, rest))
 }
 
-/// The trees of two expressions, in boxes.
-fn boxed(alloc: Global, left: Found, right: Found) -> Result<(Boxed<Expr>, Boxed<Expr>), Halt> {
-    let left = Boxed::new(alloc, left.tree)?;
-    let right = Boxed::new(alloc, right.tree)?;
-    Ok((left, right))
-}
-
-/// An expression without `<->` outside brackets and bodies.
-fn implication(
+/// An expression with no `<->` outside brackets and bodies.
+#[cycle(expressions)]
+fn without_iff(
     alloc: Global,
     tokens: &[Token],
     room: u32,
     height: u32,
-) -> Result<(Found, &[Token]), Halt> {
+) -> Result<(Found, &[Token]), Halt>
+    ensures gives { Gives (λ x. (x.0, x.1.now)) result (read room height Imps tokens.now) }
+    ensures within { IfOk result (λ x. (length x.1.now < length tokens.now) × (x.0.height ≤ height)) }
+{
     let (left, rest) = joined(alloc, Connective::Or, tokens, room, height)?;
     if left.ends_open {
         return Ok((left, rest));
@@ -68,49 +60,48 @@ fn implication(
         return Ok((left, rest));
     };
     let room = deeper(rest, room)?;
-    let (right, rest) = implication(alloc, after, room, height)?;
-    let height = left.height.max(right.height);
-    let ends_open = right.ends_open;
-    let (left, right) = boxed(alloc, left, right)?;
-    let tree = Expr::Implies(sign.span.from, left, right);
-    let found = Found {
-        tree,
-        ends_open,
-        height,
-    };
-    Ok((found, rest))
+    let (right, rest) = without_iff(alloc, after, room, height)?;
+    Ok((implication(alloc, sign, left, right)?, rest))
 }
 
 /// Operands of a connective with its sign between them, and maybe before them. One alone is itself.
+#[cycle(expressions)]
 fn joined(
     alloc: Global,
     connective: Connective,
     tokens: &[Token],
     room: u32,
     height: u32,
-) -> Result<(Found, &[Token]), Halt> {
-    let front = skip(tokens, connective.kind());
+) -> Result<(Found, &[Token]), Halt>
+    ensures gives { Gives (λ x. (x.0, x.1.now)) result (joined (read room height (operand_of connective)) (sign_of connective) (node_for connective) tokens.now) }
+    ensures within { IfOk result (λ x. (length x.1.now < length tokens.now) × (x.0.height ≤ height)) }
+{
+    let front = skip(tokens, sign(connective));
     let (first, rest) = operand(alloc, connective, front, room, height)?;
     if first.ends_open {
         return Ok((first, rest));
     }
-    let Some((sign, after)) = eat(rest, connective.kind()) else {
+    let Some((token, after)) = eat(rest, sign(connective)) else {
         return Ok((first, rest));
     };
-    let mut members = Members::new(alloc);
-    members.push(first)?;
+    let mut members = no_members(alloc);
+    put(&mut members, first)?;
     let (members, rest) = operands(alloc, connective, members, after, room, height)?;
-    Ok((members.join(connective, sign), rest))
+    Ok((join(connective, token, members), rest))
 }
 
 /// An operand of a connective.
+#[cycle(expressions)]
 fn operand(
     alloc: Global,
     connective: Connective,
     tokens: &[Token],
     room: u32,
     height: u32,
-) -> Result<(Found, &[Token]), Halt> {
+) -> Result<(Found, &[Token]), Halt>
+    ensures gives { Gives (λ x. (x.0, x.1.now)) result (read room height (operand_of connective) tokens.now) }
+    ensures within { IfOk result (λ x. (length x.1.now < length tokens.now) × (x.0.height ≤ height)) }
+{
     match connective {
         Connective::And => unary(alloc, tokens, room, height),
         Connective::Or => joined(alloc, Connective::And, tokens, room, height),
@@ -118,6 +109,7 @@ fn operand(
 }
 
 /// More operands of a connective, behind those before.
+#[cycle(expressions)]
 fn operands(
     alloc: Global,
     connective: Connective,
@@ -125,179 +117,148 @@ fn operands(
     tokens: &[Token],
     room: u32,
     height: u32,
-) -> Result<(Members, &[Token]), Halt> {
+) -> Result<(Members, &[Token]), Halt>
+    requires { members.height ≤ height }
+    ensures gives { Gives (λ x. (x.0, x.1.now)) result (gathered put_member members (all_separated ends_open (read room height (operand_of connective)) (sign_of connective) tokens.now)) }
+    ensures within { IfOk result (λ x. (length x.1.now < length tokens.now) × (x.0.height ≤ height)) }
+{
     let mut rest = tokens;
     loop {
         let (found, after) = operand(alloc, connective, rest, room, height)?;
         let ends_open = found.ends_open;
-        members.push(found)?;
+        put(&mut members, found)?;
         if ends_open {
             return Ok((members, after));
         }
-        match eat(after, connective.kind()) {
+        match eat(after, sign(connective)) {
             Some((_, next)) => rest = next,
             None => return Ok((members, after)),
         }
     }
 }
 
-/// An expression without connectives that join two or more, outside brackets and bodies.
+/// An expression with no sign between two operands but `=` and `!=`, outside brackets and bodies.
+#[cycle(expressions)]
 fn unary(
     alloc: Global,
     tokens: &[Token],
     room: u32,
     height: u32,
-) -> Result<(Found, &[Token]), Halt> {
+) -> Result<(Found, &[Token]), Halt>
+    ensures gives { Gives (λ x. (x.0, x.1.now)) result (read room height Unary tokens.now) }
+    ensures within { IfOk result (λ x. (length x.1.now < length tokens.now) × (x.0.height ≤ height)) }
+{
     if let Some((sign, rest)) = eat(tokens, Kind::Bang) {
         let room = deeper(tokens, room)?;
-        return negation(alloc, sign, rest, room, height);
+        return negated(alloc, sign, rest, room, height);
     }
     if let Some((word, rest)) = eat(tokens, Kind::Forall) {
         let room = deeper(tokens, room)?;
-        return universal(alloc, word, rest, room, height);
+        return binding(alloc, true, word, rest, room, height);
     }
     if let Some((word, rest)) = eat(tokens, Kind::Exists) {
         let room = deeper(tokens, room)?;
-        return existential(alloc, word, rest, room, height);
+        return binding(alloc, false, word, rest, room, height);
     }
     if let Some((word, rest)) = eat(tokens, Kind::If) {
         let room = deeper(tokens, room)?;
-        let height = deeper(tokens, height)?;
-        return conditional(alloc, word, rest, room, height);
+        let lower = deeper(tokens, height)?;
+        return chosen(alloc, word, rest, room, lower);
     }
     comparison(alloc, tokens, room, height)
 }
 
 /// What follows a `!`.
-fn negation(
+#[cycle(expressions)]
+fn negated(
     alloc: Global,
     sign: Token,
     tokens: &[Token],
     room: u32,
     height: u32,
-) -> Result<(Found, &[Token]), Halt> {
-    let (body, rest) = unary(alloc, tokens, room, height)?;
-    let Found {
-        tree,
-        ends_open,
-        height,
-    } = body;
-    let tree = Expr::Not(sign.span.from, Boxed::new(alloc, tree)?);
-    let found = Found {
-        tree,
-        ends_open,
-        height,
-    };
-    Ok((found, rest))
+) -> Result<(Found, &[Token]), Halt>
+    ensures gives { Gives (λ x. (x.0, x.1.now)) result (negation_at (read room height Unary) sign tokens.now) }
+    ensures within { IfOk result (λ x. (length x.1.now < length tokens.now) × (x.0.height ≤ height)) }
+{
+    let (operand, rest) = unary(alloc, tokens, room, height)?;
+    Ok((negation(alloc, sign, operand)?, rest))
 }
 
 /// What follows the word of a quantifier: its variables and its body.
+#[cycle(expressions)]
 fn binding(
     alloc: Global,
+    universal: bool,
+    word: Token,
     tokens: &[Token],
     room: u32,
     height: u32,
-) -> Result<(Seq<Bound>, Found, &[Token]), Halt> {
+) -> Result<(Found, &[Token]), Halt>
+    ensures gives { Gives (λ x. (x.0, x.1.now)) result (quantified_at (quantifier_of universal) (read room height Exprs) word tokens.now) }
+    ensures within { IfOk result (λ x. (length x.1.now < length tokens.now) × (x.0.height ≤ height)) }
+{
     let (variables, rest) = bounds(alloc, tokens)?;
     let (_, rest) = wants(rest, Kind::Dot)?;
     let (body, rest) = expr(alloc, rest, room, height)?;
-    Ok((variables, body, rest))
+    Ok((quantified(alloc, universal, word, variables, body)?, rest))
 }
 
-/// What follows `forall`.
-fn universal(
+/// What follows `if`. Its parts are lower than it is.
+#[cycle(expressions)]
+fn chosen(
     alloc: Global,
     word: Token,
     tokens: &[Token],
     room: u32,
-    height: u32,
-) -> Result<(Found, &[Token]), Halt> {
-    let (variables, body, rest) = binding(alloc, tokens, room, height)?;
-    let found = Found {
-        tree: Expr::All(word.span.from, variables, Boxed::new(alloc, body.tree)?),
-        ends_open: true,
-        height: body.height,
-    };
-    Ok((found, rest))
-}
-
-/// What follows `exists`.
-fn existential(
-    alloc: Global,
-    word: Token,
-    tokens: &[Token],
-    room: u32,
-    height: u32,
-) -> Result<(Found, &[Token]), Halt> {
-    let (variables, body, rest) = binding(alloc, tokens, room, height)?;
-    let found = Found {
-        tree: Expr::Ex(word.span.from, variables, Boxed::new(alloc, body.tree)?),
-        ends_open: true,
-        height: body.height,
-    };
-    Ok((found, rest))
-}
-
-/// What follows `if`.
-fn conditional(
-    alloc: Global,
-    word: Token,
-    tokens: &[Token],
-    room: u32,
-    height: u32,
-) -> Result<(Found, &[Token]), Halt> {
-    let (condition, rest) = expr(alloc, tokens, room, height)?;
+    lower: u32,
+) -> Result<(Found, &[Token]), Halt>
+    requires { lower + 1 < 2 ^ 32 }
+    ensures gives { Gives (λ x. (x.0, x.1.now)) result (conditional_at (read room lower Exprs) word tokens.now) }
+    ensures within { IfOk result (λ x. (length x.1.now < length tokens.now) × (x.0.height ≤ lower + 1)) }
+{
+    let (condition, rest) = expr(alloc, tokens, room, lower)?;
     let (_, rest) = wants(rest, Kind::Then)?;
-    let (with, rest) = expr(alloc, rest, room, height)?;
+    let (with, rest) = expr(alloc, rest, room, lower)?;
     let (_, rest) = wants(rest, Kind::Else)?;
-    let (without, rest) = expr(alloc, rest, room, height)?;
-    let height = condition.height.max(with.height.max(without.height)) + 1;
-    let condition = Boxed::new(alloc, condition.tree)?;
-    let (with, without) = boxed(alloc, with, without)?;
-    let found = Found {
-        tree: Expr::If(word.span.from, condition, with, without),
-        ends_open: true,
-        height,
-    };
+    let (without, rest) = expr(alloc, rest, room, lower)?;
+    let found = conditional(alloc, word, condition, with, without)?;
     Ok((found, rest))
 }
 
-/// An expression of brackets, names and equalities alone, outside brackets.
+/// An expression of names, constants, brackets and equalities alone, outside brackets.
+#[cycle(expressions)]
 fn comparison(
     alloc: Global,
     tokens: &[Token],
     room: u32,
     height: u32,
-) -> Result<(Found, &[Token]), Halt> {
+) -> Result<(Found, &[Token]), Halt>
+    ensures gives { Gives (λ x. (x.0, x.1.now)) result (comparison_at (nat_lt 0 room) (deep room height Exprs) tokens.now) }
+    ensures within { IfOk result (λ x. (length x.1.now < length tokens.now) × (x.0.height ≤ height)) }
+{
     let (left, rest) = atom(alloc, tokens, room, height)?;
-    if let Some((sign, rest)) = eat(rest, Kind::Equal) {
-        let (right, rest) = atom(alloc, rest, room, height)?;
-        let height = left.height.max(right.height);
-        let (left, right) = boxed(alloc, left, right)?;
-        return Ok((
-            closed(Expr::Equal(sign.span.from, left, right), height),
-            rest,
-        ));
+    if let Some((sign, after)) = eat(rest, Kind::Equal) {
+        let (right, rest) = atom(alloc, after, room, height)?;
+        return Ok((equality(alloc, sign, left, right)?, rest));
     }
-    if let Some((sign, rest)) = eat(rest, Kind::Unequal) {
-        let (right, rest) = atom(alloc, rest, room, height)?;
-        let height = left.height.max(right.height);
-        let (left, right) = boxed(alloc, left, right)?;
-        return Ok((
-            closed(Expr::Unequal(sign.span.from, left, right), height),
-            rest,
-        ));
+    if let Some((sign, after)) = eat(rest, Kind::Unequal) {
+        let (right, rest) = atom(alloc, after, room, height)?;
+        return Ok((inequality(alloc, sign, left, right)?, rest));
     }
     Ok((left, rest))
 }
 
-/// A name with its arguments, `true`, `false`, or what stands in brackets.
+/// A name with its arguments, `true`, `false`, `new`, `distinct`, or an expression in brackets.
+#[cycle(expressions)]
 fn atom(
     alloc: Global,
     tokens: &[Token],
     room: u32,
     height: u32,
-) -> Result<(Found, &[Token]), Halt> {
+) -> Result<(Found, &[Token]), Halt>
+    ensures gives { Gives (λ x. (x.0, x.1.now)) result (read room height Atom tokens.now) }
+    ensures within { IfOk result (λ x. (length x.1.now < length tokens.now) × (x.0.height ≤ height)) }
+{
     if let Some((word, rest)) = eat(tokens, Kind::Word) {
         return named(alloc, word, rest, room, height);
     }
@@ -309,7 +270,7 @@ fn atom(
     }
     if let Some((word, rest)) = eat(tokens, Kind::New) {
         let room = deeper(tokens, room)?;
-        return after_step(alloc, word, rest, room, height);
+        return changed(alloc, word, rest, room, height);
     }
     if let Some((word, rest)) = eat(tokens, Kind::Distinct) {
         let room = deeper(tokens, room)?;
@@ -323,104 +284,104 @@ fn atom(
 }
 
 /// What follows a name.
+#[cycle(expressions)]
 fn named(
     alloc: Global,
     word: Token,
     tokens: &[Token],
     room: u32,
     height: u32,
-) -> Result<(Found, &[Token]), Halt> {
+) -> Result<(Found, &[Token]), Halt>
+    ensures gives { Gives (λ x. (x.0, x.1.now)) result (named_at (nat_lt 0 room) (deep room height Exprs) word tokens.now) }
+    ensures within { IfOk result (λ x. (length x.1.now ≤ length tokens.now) × (x.0.height ≤ height)) }
+{
     let Some((_, after)) = eat(tokens, Kind::RoundLeft) else {
         let tree = Expr::Name(word.span, false, Seq::new(alloc));
         return Ok((closed(tree, 0), tokens));
     };
     let room = deeper(tokens, room)?;
-    let (members, rest) = closed_arguments(alloc, after, room, height)?;
+    if let Some((_, rest)) = eat(after, Kind::RoundRight) {
+        let tree = Expr::Name(word.span, true, Seq::new(alloc));
+        return Ok((closed(tree, 0), rest));
+    }
+    let (members, rest) = arguments(alloc, after, room, height)?;
     let tree = Expr::Name(word.span, true, members.trees);
     Ok((closed(tree, members.height), rest))
 }
 
 /// What follows `new`.
-fn after_step(
+#[cycle(expressions)]
+fn changed(
     alloc: Global,
     word: Token,
     tokens: &[Token],
     room: u32,
     height: u32,
-) -> Result<(Found, &[Token]), Halt> {
+) -> Result<(Found, &[Token]), Halt>
+    ensures gives { Gives (λ x. (x.0, x.1.now)) result (new_at (read room height Exprs) word tokens.now) }
+    ensures within { IfOk result (λ x. (length x.1.now < length tokens.now) × (x.0.height ≤ height)) }
+{
     let (_, rest) = wants(tokens, Kind::RoundLeft)?;
-    let (found, rest) = bracketed(alloc, rest, room, height)?;
-    let height = found.height;
-    let tree = Expr::New(word.span.from, Boxed::new(alloc, found.tree)?);
-    Ok((closed(tree, height), rest))
+    let (inner, rest) = bracketed(alloc, rest, room, height)?;
+    Ok((after_step(alloc, word, inner)?, rest))
 }
 
 /// What follows `distinct`.
+#[cycle(expressions)]
 fn distinct(
     alloc: Global,
     word: Token,
     tokens: &[Token],
     room: u32,
     height: u32,
-) -> Result<(Found, &[Token]), Halt> {
+) -> Result<(Found, &[Token]), Halt>
+    ensures gives { Gives (λ x. (x.0, x.1.now)) result (distinct_at (read room height Exprs) word tokens.now) }
+    ensures within { IfOk result (λ x. (length x.1.now < length tokens.now) × (x.0.height ≤ height)) }
+{
     let (_, rest) = wants(tokens, Kind::RoundLeft)?;
-    let (members, rest) = some_arguments(alloc, rest, room, height)?;
+    let (members, rest) = arguments(alloc, rest, room, height)?;
     let tree = Expr::Distinct(word.span.from, members.trees);
     Ok((closed(tree, members.height), rest))
 }
 
 /// What follows a bracket, up to the one that closes it.
+#[cycle(expressions)]
 fn bracketed(
     alloc: Global,
     tokens: &[Token],
     room: u32,
     height: u32,
-) -> Result<(Found, &[Token]), Halt> {
-    let (found, rest) = expr(alloc, tokens, room, height)?;
+) -> Result<(Found, &[Token]), Halt>
+    ensures gives { Gives (λ x. (x.0, x.1.now)) result (bracketed_at (read room height Exprs) tokens.now) }
+    ensures within { IfOk result (λ x. (length x.1.now < length tokens.now) × (x.0.height ≤ height)) }
+{
+    let (inner, rest) = expr(alloc, tokens, room, height)?;
     let (_, rest) = wants(rest, Kind::RoundRight)?;
-    Ok((closed(found.tree, found.height), rest))
+    Ok((closed(inner.tree, inner.height), rest))
 }
 
-/// Arguments behind a bracket, up to the one that closes it. There may be none.
-fn closed_arguments(
-    alloc: Global,
-    tokens: &[Token],
-    room: u32,
-    height: u32,
-) -> Result<(Members, &[Token]), Halt> {
-    if let Some((_, rest)) = eat(tokens, Kind::RoundRight) {
-        return Ok((Members::new(alloc), rest));
-    }
-    some_arguments(alloc, tokens, room, height)
-}
-
-/// The same, where there is one at least.
-fn some_arguments(
-    alloc: Global,
-    tokens: &[Token],
-    room: u32,
-    height: u32,
-) -> Result<(Members, &[Token]), Halt> {
-    let (members, rest) = arguments(alloc, tokens, room, height)?;
-    let (_, rest) = wants(rest, Kind::RoundRight)?;
-    Ok((members, rest))
-}
-
-/// Arguments, with commas between them.
+/// Arguments behind a bracket, up to the one that closes it.
+#[cycle(expressions)]
 fn arguments(
     alloc: Global,
     tokens: &[Token],
     room: u32,
     height: u32,
-) -> Result<(Members, &[Token]), Halt> {
-    let mut members = Members::new(alloc);
+) -> Result<(Members, &[Token]), Halt>
+    ensures gives { Gives (λ x. (x.0, x.1.now)) result (gathered put_member no_members (some_list (read room height Exprs) tokens.now)) }
+    ensures within { IfOk result (λ x. (length x.1.now < length tokens.now) × (x.0.height ≤ height)) }
+{
+    let mut members = no_members(alloc);
     let mut rest = tokens;
     loop {
         let (found, after) = expr(alloc, rest, room, height)?;
-        members.push(found)?;
+        put(&mut members, found)?;
         match eat(after, Kind::Comma) {
             Some((_, next)) => rest = next,
-            None => return Ok((members, after)),
+            None => {
+                let (_, end) = wants(after, Kind::RoundRight)?;
+                return Ok((members, end));
+            }
         }
     }
 }

@@ -8,6 +8,7 @@ mod file;
 mod halt;
 mod lists;
 mod members;
+mod nodes;
 mod reader;
 
 pub use fault::ParseFault;

@@ -1,0 +1,46 @@
+-- Reading the items of a list one after the other, as a loop does.
+use Rattle.std.proofs.Common.{◌≡◌, ℕ, Bool, true, false, List, [], ◌∷◌, ◌++◌, Option, Some, None, Result, Ok, Err, refl, sym, ap, ◌∙◌, append_assoc}
+use Rattle.std.proofs.lemmas.List.{append-nil}
+use Rattle.pyv_lex.specs.declared.token.Kind.{Kind}
+use Rattle.pyv_lex.specs.declared.token.Token.{Token}
+use Rattle.pyv_grammar.specs.Reading.{Got, Reader, eat, on, ◌>>=◌, give, and_then, sign, all_separated}
+use Rattle.pyv_grammar.proofs.Local.{Strict}
+use Rattle.pyv_grammar.proofs.Strict.{item, all_separated-step}
+use Rattle.pyv_parse.specs.declared.halt.Halt.{Halt}
+use Rattle.pyv_parse.specs.declared.halt.Halt.TheVariants as halt
+use Rattle.pyv_parse.specs.Gives.{Fails, put_all, gathered, put_last}
+
+module _ {A M : Type 0} (put : M → A → M) (ends : A → Bool) (e : Reader A) (k : Kind) (s : Strict e) where
+  regroup : (m : M) (x : A) (got : Got (List A)) → gathered put m (got >>= λ y. give (x ∷ y.0) y.1) ≡ gathered put (put m x) got
+  regroup m x (Ok y) = refl
+  regroup m x (Err f) = refl
+
+  pub goes_on : (m : M) (rest after next : List Token) (t : Token) (x : A) → e rest ≡ Ok (x, after) → ends x ≡ false → eat k after ≡ Some (t, next)
+      → gathered put (put m x) (all_separated ends e k next) ≡ gathered put m (all_separated ends e k rest)
+  goes_on m rest after next t x f o h =
+      let one : and_then e (item ends k (all_separated ends e k)) rest ≡ (all_separated ends e k next >>= λ y. give (x ∷ y.0) y.1) = rw (f, o, h) refl in
+      sym (ap (gathered put m) (all_separated-step ends e k s rest ∙ one) ∙ regroup m x (all_separated ends e k next))
+
+  pub ends_there : (m : M) (rest after : List Token) (x : A) → e rest ≡ Ok (x, after) → ends x ≡ true → gathered put m (all_separated ends e k rest) ≡ Ok (put m x, after)
+  ends_there m rest after x f o =
+      let one : and_then e (item ends k (all_separated ends e k)) rest ≡ Ok (x ∷ [], after) = rw (f, o) refl in
+      ap (gathered put m) (all_separated-step ends e k s rest ∙ one)
+
+  pub stops : (m : M) (rest after : List Token) (x : A) → e rest ≡ Ok (x, after) → ends x ≡ false → eat k after ≡ None → gathered put m (all_separated ends e k rest) ≡ Ok (put m x, after)
+  stops m rest after x f o h =
+      let one : and_then e (item ends k (all_separated ends e k)) rest ≡ Ok (x ∷ [], after) = rw (f, o, h) refl in
+      ap (gathered put m) (all_separated-step ends e k s rest ∙ one)
+
+  pub fails : (m : M) (rest : List Token) (d : Halt) → Fails d (e rest) → Fails d (gathered put m (all_separated ends e k rest))
+  fails m rest halt.Memory f = tt
+  fails m rest (halt.Stuck d) f =
+      let one : and_then e (item ends k (all_separated ends e k)) rest ≡ Err d = rw f refl in
+      ap (gathered put m) (all_separated-step ends e k s rest ∙ one)
+
+pub put_all-last : {A : Type 0} (xs ys : List A) → put_all put_last xs ys ≡ xs ++ ys
+put_all-last xs [] = sym (append-nil xs)
+put_all-last xs (y ∷ ys) = put_all-last (xs ++ y ∷ []) ys ∙ append_assoc xs (y ∷ []) ys
+
+pub from_none : {A : Type 0} (got : Got (List A)) → gathered put_last [] got ≡ got
+from_none (Ok y) = ap (λ (ys : List _). give ys y.1) (put_all-last [] y.0)
+from_none (Err e) = refl
