@@ -1,3 +1,9 @@
+ghost use Rattle.std.specs.Prelude.{◌≡◌, ◌+◌, ◌<◌, ◌≤◌, ◌^◌, ◌∷◌, List, Ok, IfOk, IfSome, MatchOption, length};
+ghost use Rattle.pyv_lex.specs.declared.token.Token.{Token};
+ghost use Rattle.pyv_grammar.specs.declared.tree.Decl.TheVariants as decl;
+ghost use Rattle.pyv_grammar.specs.Reading.{and_then, give, name_at, decl_at, symbol_at, relation_at, constant_at, function_at, transition_at, modifies_at, claim_at, labelled_at, label_at, trace_at, braces};
+ghost use Rattle.pyv_parse.specs.Gives.{Gives, body_at};
+
 use crate::exprs::expr;
 use crate::halt::Halt;
 use crate::lists::{closed_bounds, closed_names, name, names, some_names};
@@ -15,7 +21,11 @@ const MOST_NESTING: u32 = 200;
 const MOST_HEIGHT: u32 = 6;
 
 /// A declaration.
-pub(crate) fn decl(alloc: Global, tokens: &[Token]) -> Result<(Decl, &[Token]), Halt> {
+#[tactic(auto, unfolding(pyv_grammar::specs::Reading::decl_at))]
+pub(crate) fn decl(alloc: Global, tokens: &[Token]) -> Result<(Decl, &[Token]), Halt>
+    ensures gives { Gives (λ x. (x.0, x.1.now)) result (decl_at body_at tokens.now) }
+    ensures shorter { IfOk result (λ x. length x.1.now < length tokens.now) }
+{
     if let Some((_, rest)) = eat(tokens, Kind::Sort) {
         return sort(rest);
     }
@@ -38,13 +48,20 @@ pub(crate) fn decl(alloc: Global, tokens: &[Token]) -> Result<(Decl, &[Token]), 
 }
 
 /// What follows `sort`.
-fn sort(tokens: &[Token]) -> Result<(Decl, &[Token]), Halt> {
+fn sort(tokens: &[Token]) -> Result<(Decl, &[Token]), Halt>
+    ensures gives { Gives (λ x. (x.0, x.1.now)) result (and_then name_at (λ w. give (decl.Sort w)) tokens.now) }
+    ensures shorter { IfOk result (λ x. length x.1.now < length tokens.now) }
+{
     let (sort, rest) = name(tokens)?;
     Ok((Decl::Sort(sort), rest))
 }
 
 /// What follows `mutable` or `immutable`.
-fn symbol(alloc: Global, mutable: bool, tokens: &[Token]) -> Result<(Decl, &[Token]), Halt> {
+#[tactic(auto, unfolding(pyv_grammar::specs::Reading::symbol_at))]
+fn symbol(alloc: Global, mutable: bool, tokens: &[Token]) -> Result<(Decl, &[Token]), Halt>
+    ensures gives { Gives (λ x. (x.0, x.1.now)) result (symbol_at mutable tokens.now) }
+    ensures shorter { IfOk result (λ x. length x.1.now < length tokens.now) }
+{
     if let Some((_, rest)) = eat(tokens, Kind::Relation) {
         return relation(alloc, mutable, rest);
     }
@@ -56,7 +73,11 @@ fn symbol(alloc: Global, mutable: bool, tokens: &[Token]) -> Result<(Decl, &[Tok
 }
 
 /// What follows `relation`.
-fn relation(alloc: Global, mutable: bool, tokens: &[Token]) -> Result<(Decl, &[Token]), Halt> {
+#[tactic(auto, unfolding(pyv_grammar::specs::Reading::relation_at))]
+fn relation(alloc: Global, mutable: bool, tokens: &[Token]) -> Result<(Decl, &[Token]), Halt>
+    ensures gives { Gives (λ x. (x.0, x.1.now)) result (relation_at mutable tokens.now) }
+    ensures shorter { IfOk result (λ x. length x.1.now < length tokens.now) }
+{
     let (symbol, rest) = name(tokens)?;
     let Some((_, after)) = eat(rest, Kind::RoundLeft) else {
         return Ok((Decl::Relation(mutable, symbol, Seq::new(alloc)), rest));
@@ -66,7 +87,11 @@ fn relation(alloc: Global, mutable: bool, tokens: &[Token]) -> Result<(Decl, &[T
 }
 
 /// What follows `constant`.
-fn constant(mutable: bool, tokens: &[Token]) -> Result<(Decl, &[Token]), Halt> {
+#[tactic(auto, unfolding(pyv_grammar::specs::Reading::constant_at))]
+fn constant(mutable: bool, tokens: &[Token]) -> Result<(Decl, &[Token]), Halt>
+    ensures gives { Gives (λ x. (x.0, x.1.now)) result (constant_at mutable tokens.now) }
+    ensures shorter { IfOk result (λ x. length x.1.now < length tokens.now) }
+{
     let (symbol, rest) = name(tokens)?;
     let (_, rest) = wants(rest, Kind::Colon)?;
     let (sort, rest) = name(rest)?;
@@ -74,7 +99,11 @@ fn constant(mutable: bool, tokens: &[Token]) -> Result<(Decl, &[Token]), Halt> {
 }
 
 /// What follows `function`.
-fn function(alloc: Global, mutable: bool, tokens: &[Token]) -> Result<(Decl, &[Token]), Halt> {
+#[tactic(auto, unfolding(pyv_grammar::specs::Reading::function_at))]
+fn function(alloc: Global, mutable: bool, tokens: &[Token]) -> Result<(Decl, &[Token]), Halt>
+    ensures gives { Gives (λ x. (x.0, x.1.now)) result (function_at mutable tokens.now) }
+    ensures shorter { IfOk result (λ x. length x.1.now < length tokens.now) }
+{
     let (symbol, rest) = name(tokens)?;
     let (_, rest) = wants(rest, Kind::RoundLeft)?;
     let (args, rest) = some_names(alloc, rest)?;
@@ -84,7 +113,11 @@ fn function(alloc: Global, mutable: bool, tokens: &[Token]) -> Result<(Decl, &[T
 }
 
 /// What follows `transition`.
-fn transition(alloc: Global, tokens: &[Token]) -> Result<(Decl, &[Token]), Halt> {
+#[tactic(auto, unfolding(pyv_grammar::specs::Reading::transition_at))]
+fn transition(alloc: Global, tokens: &[Token]) -> Result<(Decl, &[Token]), Halt>
+    ensures gives { Gives (λ x. (x.0, x.1.now)) result (transition_at body_at tokens.now) }
+    ensures shorter { IfOk result (λ x. length x.1.now < length tokens.now) }
+{
     let (symbol, rest) = name(tokens)?;
     let (_, rest) = wants(rest, Kind::RoundLeft)?;
     let (parameters, rest) = closed_bounds(alloc, rest)?;
@@ -97,7 +130,11 @@ fn transition(alloc: Global, tokens: &[Token]) -> Result<(Decl, &[Token]), Halt>
 }
 
 /// The symbols that a transition may modify.
-fn modifies(alloc: Global, tokens: &[Token]) -> Result<(Seq<Span>, &[Token]), Halt> {
+#[tactic(auto, unfolding(pyv_grammar::specs::Reading::modifies_at))]
+fn modifies(alloc: Global, tokens: &[Token]) -> Result<(Seq<Span>, &[Token]), Halt>
+    ensures gives { Gives (λ x. (x.0, x.1.now)) result (modifies_at tokens.now) }
+    ensures shorter { IfOk result (λ x. length x.1.now ≤ length tokens.now) }
+{
     match eat(tokens, Kind::Modifies) {
         Some((_, rest)) => names(alloc, rest),
         None => Ok((Seq::new(alloc), tokens)),
@@ -105,12 +142,20 @@ fn modifies(alloc: Global, tokens: &[Token]) -> Result<(Seq<Span>, &[Token]), Ha
 }
 
 /// An expression within the limits.
-fn body(alloc: Global, tokens: &[Token]) -> Result<(Found, &[Token]), Halt> {
+#[tactic(auto, unfolding(crate::specs::Gives::body_at))]
+fn body(alloc: Global, tokens: &[Token]) -> Result<(Found, &[Token]), Halt>
+    ensures gives { Gives (λ x. (x.0, x.1.now)) result (body_at tokens.now) }
+    ensures shorter { IfOk result (λ x. length x.1.now < length tokens.now) }
+{
     expr(alloc, tokens, MOST_NESTING, MOST_HEIGHT)
 }
 
 /// A declaration of an expression.
-fn claim(alloc: Global, tokens: &[Token]) -> Result<(Decl, &[Token]), Halt> {
+#[tactic(auto, unfolding(pyv_grammar::specs::Reading::claim_at))]
+fn claim(alloc: Global, tokens: &[Token]) -> Result<(Decl, &[Token]), Halt>
+    ensures gives { Gives (λ x. (x.0, x.1.now)) result (claim_at body_at tokens.now) }
+    ensures shorter { IfOk result (λ x. length x.1.now < length tokens.now) }
+{
     if let Some((_, rest)) = eat(tokens, Kind::Axiom) {
         let (tree, rest) = labelled(alloc, rest)?;
         return Ok((Decl::Axiom(tree), rest));
@@ -129,13 +174,21 @@ fn claim(alloc: Global, tokens: &[Token]) -> Result<(Decl, &[Token]), Halt> {
 }
 
 /// An expression, and maybe a label before it.
-fn labelled(alloc: Global, tokens: &[Token]) -> Result<(Expr, &[Token]), Halt> {
+#[tactic(auto, unfolding(pyv_grammar::specs::Reading::labelled_at))]
+fn labelled(alloc: Global, tokens: &[Token]) -> Result<(Expr, &[Token]), Halt>
+    ensures gives { Gives (λ x. (x.0, x.1.now)) result (labelled_at body_at tokens.now) }
+    ensures shorter { IfOk result (λ x. length x.1.now < length tokens.now) }
+{
     let (found, rest) = body(alloc, label(tokens)?)?;
     Ok((found.tree, rest))
 }
 
 /// The tokens behind a label, where one stands at their front.
-fn label(tokens: &[Token]) -> Result<&[Token], Halt> {
+#[tactic(auto, unfolding(pyv_grammar::specs::Reading::label_at))]
+fn label(tokens: &[Token]) -> Result<&[Token], Halt>
+    ensures gives { Gives (λ x. (tt, x.now)) result (label_at tokens.now) }
+    ensures shorter { IfOk result (λ x. length x.now ≤ length tokens.now) }
+{
     let Some((_, rest)) = eat(tokens, Kind::SquareLeft) else {
         return Ok(tokens);
     };
@@ -145,14 +198,21 @@ fn label(tokens: &[Token]) -> Result<&[Token], Halt> {
 }
 
 /// What follows `sat` or `unsat`.
-fn trace(tokens: &[Token]) -> Result<(Decl, &[Token]), Halt> {
+#[tactic(auto, unfolding(pyv_grammar::specs::Reading::trace_at))]
+fn trace(tokens: &[Token]) -> Result<(Decl, &[Token]), Halt>
+    ensures gives { Gives (λ x. (x.0, x.1.now)) result (trace_at tokens.now) }
+    ensures shorter { IfOk result (λ x. length x.1.now < length tokens.now) }
+{
     let (_, rest) = wants(tokens, Kind::Trace)?;
     let (_, rest) = wants(rest, Kind::CurlyLeft)?;
     Ok((Decl::Trace, behind_brace(rest)?))
 }
 
 /// The tokens behind the curly bracket that closes one before them.
-fn behind_brace(tokens: &[Token]) -> Result<&[Token], Halt> {
+fn behind_brace(tokens: &[Token]) -> Result<&[Token], Halt>
+    ensures gives { Gives (λ x. (tt, x.now)) result (braces 0 tokens.now) }
+    ensures shorter { IfOk result (λ x. length x.now < length tokens.now) }
+{
     let mut open = 0;
     let mut rest = tokens;
     'tokens: while let Some((_, after)) = rest.split_first() {
@@ -167,7 +227,12 @@ fn behind_brace(tokens: &[Token]) -> Result<&[Token], Halt> {
 
 /// How many curly brackets are open besides the first behind the first token, where so many are open
 /// before it. There is none where it closes the first.
-fn open_behind(tokens: &[Token], open: usize) -> Option<usize> {
+#[tactic(auto, unfolding(pyv_grammar::specs::Reading::braces))]
+fn open_behind(tokens: &[Token], open: usize) -> Option<usize>
+    requires { open + 1 < 2 ^ 64 }
+    ensures is { (t : Token) (rest : List Token) → tokens.now ≡ t ∷ rest → MatchOption result (braces open tokens.now ≡ Ok (tt, rest)) (λ n. braces open tokens.now ≡ braces n rest) }
+    ensures within { IfSome result (λ n. n ≤ open + 1) }
+{
     if eat(tokens, Kind::CurlyLeft).is_some() {
         return Some(open + 1);
     }

@@ -18,6 +18,7 @@ use std::alloc::Global;
 
 /// An expression.
 #[cycle(expressions)]
+#[tactic(auto, unfolding(pyv_grammar::specs::Reading::exprs, pyv_grammar::specs::Reading::expr_at))]
 pub(crate) fn expr(
     alloc: Global,
     tokens: &[Token],
@@ -43,6 +44,7 @@ pub(crate) fn expr(
 
 /// An expression with no `<->` outside brackets and bodies.
 #[cycle(expressions)]
+#[tactic(auto, unfolding(pyv_grammar::specs::Reading::imps, pyv_grammar::specs::Reading::imp_at, pyv_grammar::specs::Reading::ors))]
 fn without_iff(
     alloc: Global,
     tokens: &[Token],
@@ -66,6 +68,7 @@ fn without_iff(
 
 /// Operands of a connective with its sign between them, and maybe before them. One alone is itself.
 #[cycle(expressions)]
+#[tactic(auto, unfolding(pyv_grammar::specs::Reading::joined))]
 fn joined(
     alloc: Global,
     connective: Connective,
@@ -92,6 +95,7 @@ fn joined(
 
 /// An operand of a connective.
 #[cycle(expressions)]
+#[tactic(auto, unfolding(pyv_grammar::specs::Reading::ands))]
 fn operand(
     alloc: Global,
     connective: Connective,
@@ -139,6 +143,7 @@ fn operands(
 
 /// An expression with no sign between two operands but `=` and `!=`, outside brackets and bodies.
 #[cycle(expressions)]
+#[tactic(auto, unfolding(pyv_grammar::specs::Reading::unaries, pyv_grammar::specs::Reading::unary_at))]
 fn unary(
     alloc: Global,
     tokens: &[Token],
@@ -186,6 +191,7 @@ fn negated(
 
 /// What follows the word of a quantifier: its variables and its body.
 #[cycle(expressions)]
+#[tactic(auto, unfolding(pyv_grammar::specs::Reading::binding_at))]
 fn binding(
     alloc: Global,
     universal: bool,
@@ -227,6 +233,7 @@ fn chosen(
 
 /// An expression of names, constants, brackets and equalities alone, outside brackets.
 #[cycle(expressions)]
+#[tactic(auto, unfolding(pyv_grammar::specs::Reading::comparison_at))]
 fn comparison(
     alloc: Global,
     tokens: &[Token],
@@ -250,6 +257,7 @@ fn comparison(
 
 /// A name with its arguments, `true`, `false`, `new`, `distinct`, or an expression in brackets.
 #[cycle(expressions)]
+#[tactic(auto, unfolding(pyv_grammar::specs::Reading::atom_at))]
 fn atom(
     alloc: Global,
     tokens: &[Token],
@@ -285,6 +293,7 @@ fn atom(
 
 /// What follows a name.
 #[cycle(expressions)]
+#[tactic(auto, unfolding(pyv_grammar::specs::Reading::closed_list))]
 fn named(
     alloc: Global,
     word: Token,
@@ -328,6 +337,7 @@ fn changed(
 
 /// What follows `distinct`.
 #[cycle(expressions)]
+#[tactic(auto, unfolding(pyv_grammar::specs::Reading::some_list))]
 fn distinct(
     alloc: Global,
     word: Token,
@@ -362,6 +372,7 @@ fn bracketed(
 
 /// Arguments behind a bracket, up to the one that closes it.
 #[cycle(expressions)]
+#[tactic(auto, unfolding(pyv_grammar::specs::Reading::some_list))]
 fn arguments(
     alloc: Global,
     tokens: &[Token],
