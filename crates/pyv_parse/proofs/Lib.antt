@@ -1,2 +1,4 @@
+pub mod Gathered
 pub mod Loops
 pub mod Ranks
+pub mod Steps

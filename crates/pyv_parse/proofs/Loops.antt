@@ -44,3 +44,7 @@ put_all-last xs (y ∷ ys) = put_all-last (xs ++ y ∷ []) ys ∙ append_assoc x
 pub from_none : {A : Type 0} (got : Got (List A)) → gathered put_last [] got ≡ got
 from_none (Ok y) = ap (λ (ys : List _). give ys y.1) (put_all-last [] y.0)
 from_none (Err e) = refl
+
+pub fails_then : {A B : Type 0} (f : A × List Token → Got B) (d : Halt) (got : Got A) → Fails d got → Fails d (got >>= f)
+fails_then f halt.Memory got h = tt
+fails_then f (halt.Stuck d) got h = rw h refl
