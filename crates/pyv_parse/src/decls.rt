@@ -227,17 +227,16 @@ fn behind_brace(tokens: &[Token]) -> Result<&[Token], Halt>
 
 /// How many curly brackets are open besides the first behind the first token, where so many are open
 /// before it. There is none where it closes the first.
-#[tactic(auto, unfolding(pyv_grammar::specs::Reading::braces))]
-fn open_behind(tokens: &[Token], open: usize) -> Option<usize>
-    requires { open + 1 < 2 ^ 64 }
-    ensures is { (t : Token) (rest : List Token) → tokens.now ≡ t ∷ rest → MatchOption result (braces open tokens.now ≡ Ok (tt, rest)) (λ n. braces open tokens.now ≡ braces n rest) }
-    ensures within { IfSome result (λ n. n ≤ open + 1) }
+fn open_behind(tokens: &[Token], depth: usize) -> Option<usize>
+    requires { depth + 1 < 2 ^ 64 }
+    ensures is { (t : Token) (rest : List Token) → tokens.now ≡ t ∷ rest → MatchOption result (braces depth tokens.now ≡ Ok (tt, rest)) (λ n. braces depth tokens.now ≡ braces n rest) }
+    ensures within { IfSome result (λ n. n ≤ depth + 1) }
 {
-    if eat(tokens, Kind::CurlyLeft).is_some() {
-        return Some(open + 1);
+    if let Some((_, _)) = eat(tokens, Kind::CurlyLeft) {
+        return Some(depth + 1);
     }
-    if eat(tokens, Kind::CurlyRight).is_none() {
-        return Some(open);
-    }
-    open.checked_sub(1)
+    let Some((_, _)) = eat(tokens, Kind::CurlyRight) else {
+        return Some(depth);
+    };
+    depth.checked_sub(1)
 }
