@@ -94,7 +94,7 @@ unfolding separated
 opening_separated ends e k zero l o = opening_refuse
 opening_separated ends e k (suc n) l o =
     opening_then e _ l o (λ x. opening_sign (ends x) true k _ _ (λ q. absurd cc)
-        (λ _ t. opening_then (separated ends e k n) _ (local_separated ends e k n l) (opening_separated ends e k n l o) (λ xs. opening_give _)) (opening_give _))
+    (λ _ t. opening_then (separated ends e k n) _ (local_separated ends e k n l) (opening_separated ends e k n l o) (λ xs. opening_give _)) (opening_give _))
 
 opening_all : {A : Type 0} (ends : A → Bool) (e : Reader A) (k : Kind) → Local e → Opening e → Opening (all_separated ends e k)
 unfolding all_separated
@@ -131,7 +131,7 @@ opening_joined : (e : Reader Found) (k : Kind) (node : ℕ → List Expr → Exp
 unfolding joined
 opening_joined e k node g o =
     opening_lead k _ (opening_then e _ g.is_local o (λ x. opening_sign x.ends_open true k _ _ (λ q. absurd cc)
-        (λ _ t. opening_then (all_separated ends_open e k) _ (good_all_separated ends_open e k g).is_local (opening_all ends_open e k g.is_local o) (λ ys. opening_give _)) (opening_give _)))
+    (λ _ t. opening_then (all_separated ends_open e k) _ (good_all_separated ends_open e k g).is_local (opening_all ends_open e k g.is_local o) (λ ys. opening_give _)) (opening_give _)))
 
 module _ (roomy : Bool) (e : Reader Found) (g : Good e) (o : roomy ≡ true → Opening e) where
   opening_atom : Opening (atom_at roomy e)
@@ -193,13 +193,13 @@ module _ (roomy : Bool) (d : Deeper) (g : (v : ℕ) (l : Level) → Good (d v l)
   unfolding imps imp_at
   opening_imps v =
       opening_then (ors v roomy d) _ (good_level roomy d g v Ors).is_local (opening_ors v) (λ x. opening_sign x.ends_open roomy kind.Implies _ _ (λ _. Opens.implication)
-          (λ q t. opening_then (d v Imps) _ (g v Imps).is_local (o q v Imps) (λ y. opening_give _)) (opening_give _))
+      (λ q t. opening_then (d v Imps) _ (g v Imps).is_local (o q v Imps) (λ y. opening_give _)) (opening_give _))
 
   opening_exprs : (v : ℕ) → Opening (exprs v roomy d)
   unfolding exprs expr_at
   opening_exprs v =
       opening_then (imps v roomy d) _ (good_level roomy d g v Imps).is_local (opening_imps v) (λ x. opening_sign x.ends_open (nat_lt x.height v) kind.Iff _ _ (λ _. Opens.equivalence)
-          (λ q t. opening_then (imps (v - 1) roomy d) _ (good_level roomy d g (v - 1) Imps).is_local (opening_imps (v - 1)) (λ y. opening_give _)) (opening_give _))
+      (λ q t. opening_then (imps (v - 1) roomy d) _ (good_level roomy d g (v - 1) Imps).is_local (opening_imps (v - 1)) (λ y. opening_give _)) (opening_give _))
 
   opening_level : (v : ℕ) (l : Level) → Opening (level_at v roomy d l)
   opening_level v Atom = opening_atom roomy (d v Exprs) (g v Exprs) (λ q. o q v Exprs)

@@ -144,12 +144,7 @@ fn operands(
 /// An expression with no sign between two operands but `=` and `!=`, outside brackets and bodies.
 #[cycle(expressions)]
 #[tactic(auto, unfolding(pyv_grammar::specs::Reading::unaries, pyv_grammar::specs::Reading::unary_at))]
-fn unary(
-    alloc: Global,
-    tokens: &[Token],
-    room: u32,
-    height: u32,
-) -> Result<(Found, &[Token]), Halt>
+fn unary(alloc: Global, tokens: &[Token], room: u32, height: u32) -> Result<(Found, &[Token]), Halt>
     ensures gives { Gives (λ x. (x.0, x.1.now)) result (read room height Unary tokens.now) }
     ensures within { IfOk result (λ x. (length x.1.now < length tokens.now) × (x.0.height ≤ height)) }
 {
@@ -258,12 +253,7 @@ fn comparison(
 /// A name with its arguments, `true`, `false`, `new`, `distinct`, or an expression in brackets.
 #[cycle(expressions)]
 #[tactic(auto, unfolding(pyv_grammar::specs::Reading::atom_at))]
-fn atom(
-    alloc: Global,
-    tokens: &[Token],
-    room: u32,
-    height: u32,
-) -> Result<(Found, &[Token]), Halt>
+fn atom(alloc: Global, tokens: &[Token], room: u32, height: u32) -> Result<(Found, &[Token]), Halt>
     ensures gives { Gives (λ x. (x.0, x.1.now)) result (read room height Atom tokens.now) }
     ensures within { IfOk result (λ x. (length x.1.now < length tokens.now) × (x.0.height ≤ height)) }
 {

@@ -40,8 +40,7 @@ pub fn parse(alloc: Global, bytes: &[u8], tokens: &[Token]) -> Result<Model, Par
 /// A list of tokens has at most one tree, whatever the limits.
 pub fn one_tree()
     ensures { (one other : Limits) (a b : List Decl) (tokens : List Token) → SpellsFile one a tokens → SpellsFile other b tokens → a ≡ b }
-{
-}
+{}
 
 /// All declarations.
 fn decls(alloc: Global, tokens: &[Token]) -> Result<Seq<Decl>, Halt>

@@ -107,10 +107,7 @@ pub(crate) fn bounds(alloc: Global, tokens: &[Token]) -> Result<(Seq<Bound>, &[T
 
 /// Bound variables behind a bracket, up to the one that closes it. There may be none.
 #[tactic(auto, unfolding(pyv_grammar::specs::Reading::some_list, pyv_grammar::specs::Reading::closed_list))]
-pub(crate) fn closed_bounds(
-    alloc: Global,
-    tokens: &[Token],
-) -> Result<(Seq<Bound>, &[Token]), Halt>
+pub(crate) fn closed_bounds(alloc: Global, tokens: &[Token]) -> Result<(Seq<Bound>, &[Token]), Halt>
     ensures gives { Gives (λ x. (x.0, x.1.now)) result (closed_list bound_at tokens.now) }
     ensures shorter { IfOk result (λ x. length x.1.now < length tokens.now) }
 {

@@ -51,7 +51,12 @@ pub(crate) fn equality(alloc: Global, sign: Token, left: Found, right: Found) ->
 }
 
 /// The inequality by a sign.
-pub(crate) fn inequality(alloc: Global, sign: Token, left: Found, right: Found) -> Result<Found, Halt>
+pub(crate) fn inequality(
+    alloc: Global,
+    sign: Token,
+    left: Found,
+    right: Found,
+) -> Result<Found, Halt>
     ensures made { Makes result (equality expr.Unequal sign left right) }
 {
     let height = left.height.max(right.height);
@@ -60,7 +65,12 @@ pub(crate) fn inequality(alloc: Global, sign: Token, left: Found, right: Found) 
 }
 
 /// The implication by a sign.
-pub(crate) fn implication(alloc: Global, sign: Token, left: Found, right: Found) -> Result<Found, Halt>
+pub(crate) fn implication(
+    alloc: Global,
+    sign: Token,
+    left: Found,
+    right: Found,
+) -> Result<Found, Halt>
     ensures made { Makes result (found_of (expr.Implies sign.span.from left.tree right.tree) right.ends_open (max left.height right.height)) }
 {
     let height = left.height.max(right.height);
@@ -74,7 +84,12 @@ pub(crate) fn implication(alloc: Global, sign: Token, left: Found, right: Found)
 }
 
 /// The equivalence by a sign.
-pub(crate) fn equivalence(alloc: Global, sign: Token, left: Found, right: Found) -> Result<Found, Halt>
+pub(crate) fn equivalence(
+    alloc: Global,
+    sign: Token,
+    left: Found,
+    right: Found,
+) -> Result<Found, Halt>
     requires { max left.height right.height + 1 < 2 ^ 32 }
     ensures made { Makes result (found_of (expr.Iff sign.span.from left.tree right.tree) right.ends_open (max left.height right.height + 1)) }
 {

@@ -40,25 +40,25 @@ atom-returns-in-Some-eat-5-clause-gives t c =
 pub named-returns-clause-gives : goal.named-returns-clause-gives
 named-returns-clause-gives t c =
     rw c.closed-2.ensures
-        (at_word c.args.room c.args.height c.in_ok-room.room c.in_ok-room.ensures.ok c.args.tokens.now _ c.args.word _ c.in-Some.ensures.is c.in_default-eat.ensures.is
-        ∙ made_of (λ xs i. found (expr.Name c.args.word.span true xs) false i) c.in_ok-members.members _ _ c.in_ok-members.ensures.gives)
+    (at_word c.args.room c.args.height c.in_ok-room.room c.in_ok-room.ensures.ok c.args.tokens.now _ c.args.word _ c.in-Some.ensures.is c.in_default-eat.ensures.is
+    ∙ made_of (λ xs i. found (expr.Name c.args.word.span true xs) false i) c.in_ok-members.members _ _ c.in_ok-members.ensures.gives)
 
 pub named-returns-in_err-members-clause-gives : goal.named-returns-in_err-members-clause-gives
 named-returns-in_err-members-clause-gives t c =
     let p = err_from_is_err_and c.from_residual-in_err-members.result c.from_residual-in_err-members.ensures.1 in
     rw (p.1, p.2, at_word c.args.room c.args.height c.in_ok-room.room c.in_ok-room.ensures.ok c.args.tokens.now _ c.args.word _ c.in-Some.ensures.is c.in_default-eat.ensures.is)
-        (none_made _ c.in_err-members.field-0.0 _ c.in_err-members.ensures.gives)
+    (none_made _ c.in_err-members.field-0.0 _ c.in_err-members.ensures.gives)
 
 pub without_iff-returns-clause-gives : goal.without_iff-returns-clause-gives
 without_iff-returns-clause-gives t c =
     rw c.in_ok-implication.ensures.made
-        (at_implies c.args.room c.args.height c.in_ok-room.room c.in_ok-room.ensures.ok c.args.tokens.now _ _ _ c.in_ok-left.left c.in_ok-left.ensures.gives c.if-left.false c.in-Some.ensures.is ∙ rw c.in_ok-right.ensures.gives refl)
+    (at_implies c.args.room c.args.height c.in_ok-room.room c.in_ok-room.ensures.ok c.args.tokens.now _ _ _ c.in_ok-left.left c.in_ok-left.ensures.gives c.if-left.false c.in-Some.ensures.is ∙ rw c.in_ok-right.ensures.gives refl)
 
 pub without_iff-returns-in_err-right-clause-gives : goal.without_iff-returns-in_err-right-clause-gives
 without_iff-returns-in_err-right-clause-gives t c =
     let p = err_from_is_err_and c.from_residual-in_err-right.result c.from_residual-in_err-right.ensures.1 in
     rw (p.1, p.2, at_implies c.args.room c.args.height c.in_ok-room.room c.in_ok-room.ensures.ok c.args.tokens.now _ _ _ c.in_ok-left.left c.in_ok-left.ensures.gives c.if-left.false c.in-Some.ensures.is)
-        (fails_then _ c.in_err-right.field-0.0 _ c.in_err-right.ensures.gives)
+    (fails_then _ c.in_err-right.field-0.0 _ c.in_err-right.ensures.gives)
 
 pub distinct-returns-clause-gives : goal.distinct-returns-clause-gives
 distinct-returns-clause-gives t c =
@@ -69,15 +69,15 @@ joined-returns-clause-gives t c =
     let e = read c.args.room c.args.height (operand_of c.args.connective) in
     let front = c.skip-front.ensures.is ∙ ap (λ (k : Kind). skip k c.args.tokens.now) c.sign.ensures in
     rw c.join.ensures
-        (many e (sign_of c.args.connective) (node_for c.args.connective) c.args.tokens.now _ _ _ c.in-Some.token c.in_ok-first.first c.in_ok-members.members (ap e (sym front) ∙ c.in_ok-first.ensures.gives) c.if-first.false
-            (rw c.sign-2.ensures at c.in-Some.ensures.is) (rw (c.in_ok-put.ensures.ok, c.no_members-members.ensures) at c.in_ok-members.ensures.gives))
+    (many e (sign_of c.args.connective) (node_for c.args.connective) c.args.tokens.now _ _ _ c.in-Some.token c.in_ok-first.first c.in_ok-members.members (ap e (sym front) ∙ c.in_ok-first.ensures.gives) c.if-first.false
+    (rw c.sign-2.ensures at c.in-Some.ensures.is) (rw (c.in_ok-put.ensures.ok, c.no_members-members.ensures) at c.in_ok-members.ensures.gives))
 
 pub arguments-returns-in_err-found-clause-gives : goal.arguments-returns-in_err-found-clause-gives
 arguments-returns-in_err-found-clause-gives t c =
     let e = read c.args.room c.args.height Exprs in
     let p = err_from_is_err_and c.from_residual.result c.from_residual.ensures.1 in
     rw (p.1, p.2) (none_listed e c.args.tokens.now c.in_err-found.field-0.0
-        (rw (← c.loop-members.invariant.same) (fails put_member never e kind.Comma (good_read c.args.room c.args.height Exprs).is_strict c.loop-members.members c.loop-members.rest.now c.in_err-found.field-0.0 c.in_err-found.ensures.gives)))
+    (rw (← c.loop-members.invariant.same) (fails put_member never e kind.Comma (good_read c.args.room c.args.height Exprs).is_strict c.loop-members.members c.loop-members.rest.now c.in_err-found.field-0.0 c.in_err-found.ensures.gives)))
 
 pub arguments-loop-members-preserved : goal.arguments-loop-members-preserved
 arguments-loop-members-preserved t c = record {
@@ -92,15 +92,15 @@ arguments-returns-in_err-end-in-None-clause-gives t c =
     let e = read c.args.room c.args.height Exprs in
     let p = err_from_is_err_and c.from_residual-in_err-end-in-None.result c.from_residual-in_err-end-in-None.ensures.1 in
     rw (p.1, p.2) (not_closed e c.args.tokens.now _ c.in_err-end-in-None.field-0.0 c.put.new.members
-        (rw c.in_ok-put.ensures.ok (sym c.loop-members.invariant.same ∙ stops put_member never e kind.Comma (good_read c.args.room c.args.height Exprs).is_strict c.loop-members.members c.loop-members.rest.now _ _ c.in_ok-found.ensures.gives refl c.in-None.ensures.is))
-        c.in_err-end-in-None.ensures.gives)
+    (rw c.in_ok-put.ensures.ok (sym c.loop-members.invariant.same ∙ stops put_member never e kind.Comma (good_read c.args.room c.args.height Exprs).is_strict c.loop-members.members c.loop-members.rest.now _ _ c.in_ok-found.ensures.gives refl c.in-None.ensures.is))
+    c.in_err-end-in-None.ensures.gives)
 
 pub arguments-returns-in-None-clause-gives : goal.arguments-returns-in-None-clause-gives
 arguments-returns-in-None-clause-gives t c =
     let e = read c.args.room c.args.height Exprs in
     closed_by e c.args.tokens.now _ _ _ c.put.new.members
-        (rw c.in_ok-put.ensures.ok (sym c.loop-members.invariant.same ∙ stops put_member never e kind.Comma (good_read c.args.room c.args.height Exprs).is_strict c.loop-members.members c.loop-members.rest.now _ _ c.in_ok-found.ensures.gives refl c.in-None.ensures.is))
-        c.in_ok-end-in-None.ensures.gives
+    (rw c.in_ok-put.ensures.ok (sym c.loop-members.invariant.same ∙ stops put_member never e kind.Comma (good_read c.args.room c.args.height Exprs).is_strict c.loop-members.members c.loop-members.rest.now _ _ c.in_ok-found.ensures.gives refl c.in-None.ensures.is))
+    c.in_ok-end-in-None.ensures.gives
 
 pub operands-returns-in_err-found-clause-gives : goal.operands-returns-in_err-found-clause-gives
 operands-returns-in_err-found-clause-gives t c =
