@@ -54,16 +54,16 @@ fn without_iff(
     ensures gives { Gives (λ x. (x.0, x.1.now)) result (read room height Imps tokens.now) }
     ensures within { IfOk result (λ x. (length x.1.now < length tokens.now) × (x.0.height ≤ height)) }
 {
-    let (left, rest) = joined(alloc, Connective::Or, tokens, room, height)?;
-    if left.ends_open {
-        return Ok((left, rest));
+    let (premise, rest) = joined(alloc, Connective::Or, tokens, room, height)?;
+    if premise.ends_open {
+        return Ok((premise, rest));
     }
     let Some((sign, after)) = eat(rest, Kind::Implies) else {
-        return Ok((left, rest));
+        return Ok((premise, rest));
     };
     let room = deeper(rest, room)?;
-    let (right, rest) = without_iff(alloc, after, room, height)?;
-    Ok((implication(alloc, sign, left, right)?, rest))
+    let (conclusion, rest) = without_iff(alloc, after, room, height)?;
+    Ok((implication(alloc, sign, premise, conclusion)?, rest))
 }
 
 /// Operands of a connective with its sign between them, and maybe before them. One alone is itself.

@@ -108,6 +108,7 @@ fn limits(rt: HostRuntime) -> Result<(), Fail> {
 }
 
 // An expression in prefix form: letters for its forms and their places; lists end with a dot.
+#[cycle(flattening)]
 fn flatten(tree: &Expr, out: &mut Vec<(u8, u32)>) -> Result<(), Fail> {
     match tree {
         Expr::Name(name, brackets, args) => {
@@ -134,13 +135,16 @@ fn flatten(tree: &Expr, out: &mut Vec<(u8, u32)>) -> Result<(), Fail> {
         }
         Expr::All(at, bounds, body) => {
             out.push((b'A', *at))?;
-            out.push((b'0', bounds.len() as u32))?;
+            for bound in bounds.as_slice() {
+                out.push((b'v', bound.name.from))?;
+            }
             flatten(body.get(), out)
         }
         _ => Err(Fail::from("another form")),
     }
 }
 
+#[cycle(flattening)]
 fn flatten_all(trees: &[Expr], out: &mut Vec<(u8, u32)>) -> Result<(), Fail> {
     for tree in trees {
         flatten(tree, out)?;
@@ -194,7 +198,8 @@ fn trees(rt: HostRuntime) -> Result<(), Fail> {
         end,
         end,
         (b'A', 19),
-        (b'0', 2),
+        (b'v', 26),
+        (b'v', 29),
         name(33),
         end,
         end,

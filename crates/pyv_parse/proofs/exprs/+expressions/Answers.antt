@@ -52,13 +52,13 @@ named-returns-in_err-members-clause-gives t c =
 pub without_iff-returns-clause-gives : goal.without_iff-returns-clause-gives
 without_iff-returns-clause-gives t c =
     rw c.in_ok-implication.ensures.made
-    (at_implies c.args.room c.args.height c.in_ok-room.room c.in_ok-room.ensures.ok c.args.tokens.now _ _ _ c.in_ok-left.left c.in_ok-left.ensures.gives c.if-left.false c.in-Some.ensures.is ∙ rw c.in_ok-right.ensures.gives refl)
+    (at_implies c.args.room c.args.height c.in_ok-room.room c.in_ok-room.ensures.ok c.args.tokens.now _ _ _ c.in_ok-premise.premise c.in_ok-premise.ensures.gives c.if-premise.false c.in-Some.ensures.is ∙ rw c.in_ok-conclusion.ensures.gives refl)
 
-pub without_iff-returns-in_err-right-clause-gives : goal.without_iff-returns-in_err-right-clause-gives
-without_iff-returns-in_err-right-clause-gives t c =
-    let p = err_from_is_err_and c.from_residual-in_err-right.result c.from_residual-in_err-right.ensures.1 in
-    rw (p.1, p.2, at_implies c.args.room c.args.height c.in_ok-room.room c.in_ok-room.ensures.ok c.args.tokens.now _ _ _ c.in_ok-left.left c.in_ok-left.ensures.gives c.if-left.false c.in-Some.ensures.is)
-    (fails_then _ c.in_err-right.field-0.0 _ c.in_err-right.ensures.gives)
+pub without_iff-returns-in_err-conclusion-clause-gives : goal.without_iff-returns-in_err-conclusion-clause-gives
+without_iff-returns-in_err-conclusion-clause-gives t c =
+    let p = err_from_is_err_and c.from_residual-in_err-conclusion.result c.from_residual-in_err-conclusion.ensures.1 in
+    rw (p.1, p.2, at_implies c.args.room c.args.height c.in_ok-room.room c.in_ok-room.ensures.ok c.args.tokens.now _ _ _ c.in_ok-premise.premise c.in_ok-premise.ensures.gives c.if-premise.false c.in-Some.ensures.is)
+    (fails_then _ c.in_err-conclusion.field-0.0 _ c.in_err-conclusion.ensures.gives)
 
 pub distinct-returns-clause-gives : goal.distinct-returns-clause-gives
 distinct-returns-clause-gives t c =
