@@ -1,10 +1,10 @@
 -- Curly brackets that are open behind a token.
-use Rattle.std.proofs.Common.{◌≡◌, ℕ, zero, suc, ◌+◌, ◌-◌, ◌≤◌, Bool, true, false, SomeIff, MatchOption, subst, cond, ◌==◌, List, [], ◌∷◌, length, Option, Some, None, Result, Ok, Err, refl, sym, ap, ◌∙◌, add-one, arith}
+use Rattle.std.proofs.Common.{◌≡◌, ℕ, zero, suc, ◌+◌, ◌-◌, ◌≤◌, Bool, true, false, SomeIff, MatchOption, subst, cond, ◌==◌, List, [], ◌∷◌, length, Option, Some, None, Ok, Err, refl, sym, ap, ◌∙◌, add-one, arith}
 use Rattle.pyv_lex.specs.declared.token.Kind.{Kind}
 use Rattle.pyv_lex.specs.declared.token.Kind.TheVariants as kind
 use Rattle.pyv_lex.specs.declared.token.Token.{Token}
 use Rattle.pyv_grammar.specs.declared.reading.Stuck.TheVariants.{Bad}
-use Rattle.pyv_grammar.specs.Reading.{number, eat, braces, Got}
+use Rattle.pyv_grammar.specs.Reading.{number, eat, braces}
 
 abbrev TokenAnd : Type 0
 TokenAnd = Token × List Token

@@ -1,5 +1,5 @@
 -- Reading the declarations of a file one after the other, as a loop does.
-use Rattle.std.proofs.Common.{◌≡◌, ◌==◌, true, false, ℕ, zero, suc, ◌+◌, ◌<◌, ◌≤◌, List, [], ◌∷◌, ◌++◌, length, Result, Ok, Err, refl, sym, ap, ◌∙◌, append_assoc, add-one, arith}
+use Rattle.std.proofs.Common.{◌≡◌, ◌==◌, true, false, ℕ, zero, suc, ◌+◌, ◌<◌, List, [], ◌∷◌, ◌++◌, length, Result, Ok, Err, refl, sym, ap, ◌∙◌, append_assoc, add-one, arith}
 use Rattle.std.proofs.lemmas.Bool.{eqb-true}
 use Rattle.std.proofs.lemmas.List.{append-nil}
 use Rattle.pyv_lex.specs.declared.token.Token.{Token}
@@ -9,7 +9,6 @@ use Rattle.pyv_grammar.specs.Grammar.{Exprs}
 use Rattle.pyv_grammar.specs.Reading.{Got, Reader, decl_at, read, before_all, file_on, file, whole}
 use Rattle.pyv_grammar.proofs.Local.{Strict}
 use Rattle.pyv_grammar.proofs.Good.{good_read, good_decl}
-use Rattle.pyv_grammar.proofs.Strict.{Good}
 use Rattle.pyv_grammar.proofs.Files.{file_step, file_nil, file_enough}
 use Rattle.pyv_parse.specs.declared.halt.Halt.{Halt}
 use Rattle.pyv_parse.specs.declared.halt.Halt.TheVariants as halt

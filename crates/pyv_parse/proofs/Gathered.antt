@@ -1,5 +1,5 @@
 -- Operands and arguments that were gathered.
-use Rattle.std.proofs.Common.{◌≡◌, ℕ, max, Bool, true, false, List, [], ◌∷◌, ◌++◌, Option, Some, None, Result, Ok, Err, refl, sym, ap, ap₂, ◌∙◌, append_assoc, arith}
+use Rattle.std.proofs.Common.{◌≡◌, ℕ, max, Bool, true, false, List, [], ◌∷◌, ◌++◌, Some, Ok, Err, refl, sym, ap, ap₂, ◌∙◌, append_assoc, arith}
 use Rattle.std.proofs.lemmas.List.{append-nil}
 use Rattle.pyv_lex.specs.declared.token.Kind.{Kind}
 use Rattle.pyv_lex.specs.declared.token.Kind.TheVariants as kind
@@ -8,11 +8,12 @@ use Rattle.pyv_grammar.specs.declared.tree.Expr.{Expr}
 use Rattle.pyv_grammar.specs.declared.tree.Expr.TheVariants as expr
 use Rattle.pyv_grammar.specs.declared.reading.Found.{Found}
 use Rattle.pyv_grammar.specs.declared.reading.Stuck.{Stuck}
-use Rattle.pyv_grammar.specs.Reading.{Got, Reader, eat, ◌>>=◌, give, and_then, sign, wants, skip, listed, some_list, all_separated, ends_open, found, trees, last_open, heights, joined, node_of, distinct_at}
+use Rattle.pyv_grammar.specs.Reading.{Got, Reader, ◌>>=◌, give, and_then, sign, wants, skip, listed, some_list, all_separated, ends_open, found, trees, last_open, heights, joined, node_of, distinct_at}
 use Rattle.pyv_parse.specs.declared.halt.Halt.{Halt}
 use Rattle.pyv_parse.specs.declared.halt.Halt.TheVariants as halt
 use Rattle.pyv_parse.specs.declared.members.Members.{Members}
-use Rattle.pyv_parse.specs.Gives.{Fails, put_all, gathered, put_member, no_members}
+use Rattle.pyv_parse.specs.Gives.{Fails, eat_behind, put_all, gathered, put_member, no_members}
+use Rattle.pyv_parse.proofs.Loops.{sign-some}
 
 abbrev with_all : Members → List Found → Members
 with_all m xs = record { trees = m.trees ++ trees xs; ends_open = last_open m.ends_open xs; height = max m.height (heights xs) }
@@ -92,15 +93,12 @@ none_listed e ts (halt.Stuck d) h = ap (gathered put_member no_members) (some_li
 abbrev behind : Reader Found → Kind → (ℕ → List Expr → Expr) → Found → Token → Reader Found
 behind e k node x t = and_then (all_separated ends_open e k) (λ ys. give (node_of node t x ys))
 
-taken : (e : Reader Found) (k : Kind) (node : ℕ → List Expr → Expr) (rest after : List Token) (t : Token) (x : Found) (o : Bool) → o ≡ false → eat k rest ≡ Some (t, after) → sign o true k (behind e k node x) (give x) rest ≡ behind e k node x t after
-taken e k node rest after t x o q h = rw (q, h) refl
-
-pub many : (e : Reader Found) (k : Kind) (node : ℕ → List Expr → Expr) (ts rest after end : List Token) (t : Token) (x : Found) (m : Members) → e (skip k ts) ≡ Ok (x, rest) → x.ends_open ≡ false → eat k rest ≡ Some (t, after)
+pub many : (e : Reader Found) (k : Kind) (node : ℕ → List Expr → Expr) (ts rest after end : List Token) (t : Token) (x : Found) (m : Members) → e (skip k ts) ≡ Ok (x, rest) → eat_behind x.ends_open k rest ≡ Some (t, after)
     → gathered put_member (put_member no_members x) (all_separated ends_open e k after) ≡ Ok (m, end) → joined e k node ts ≡ Ok (found (node t.span.from m.trees) m.ends_open m.height, end)
 unfolding joined
-many e k node ts rest after end t x m f o h g =
+many e k node ts rest after end t x m f h g =
     ap (λ (z : Got Found). z >>= λ y. sign y.0.ends_open true k (behind e k node y.0) (give y.0) y.1) f
-    ∙ taken e k node rest after t x x.ends_open o h
+    ∙ sign-some x.ends_open true k (behind e k node x) (give x) rest after t h
     ∙ many_got (all_separated ends_open e k after) g
   where
     many_got : (got : Got (List Found)) → gathered put_member (put_member no_members x) got ≡ Ok (m, end) → (got >>= λ y. give (node_of node t x y.0) y.1) ≡ Ok (found (node t.span.from m.trees) m.ends_open m.height, end)
@@ -110,4 +108,4 @@ many e k node ts rest after end t x m f o h g =
         let low : max x.height (heights y.0) ≡ max (max 0 x.height) (heights y.0) = omega arith in
         let same : (with_all (put_member no_members x) y.0, y.1) ≡ (m, end) = cc in
         ap (λ (i : ℕ). done (found (node t.span.from (x.tree ∷ trees y.0)) (last_open x.ends_open y.0) i, y.1)) low
-        ∙ ap (λ (z : Members × List Token). done (found (node t.span.from z.0.trees) z.0.ends_open z.0.height, z.1)) same
+        ∙ ap (λ (z : Members × List Token). done (found (node t.span.from z.0.trees) z.0.ends_open z.0.height, z.1)) {x = (with_all (put_member no_members x) y.0, y.1)} {y = (m, end)} same

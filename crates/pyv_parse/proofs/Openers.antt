@@ -11,7 +11,7 @@ use Rattle.pyv_grammar.specs.declared.reading.Found.{Found}
 use Rattle.pyv_grammar.specs.declared.reading.Stuck.{Stuck}
 use Rattle.pyv_grammar.specs.declared.reading.Stuck.TheVariants.{Bad, Deep}
 use Rattle.pyv_grammar.specs.Grammar.{Level, Atom, Unary, Ands, Ors, Imps, Exprs}
-use Rattle.pyv_grammar.specs.Reading.{number, Got, Reader, eat, on, ◌>>=◌, give, refuse, and_then, sign, try, opens, wants, skip, separated, all_separated, never, listed, some_list, closed_list, name_at, bound_at, ends_open, joined, named_at, new_at, distinct_at, bracketed_at, atom_at, comparison_at, negation_at, binding_at, quantified_at, conditional_at, unary_at, imp_at, expr_at, Deeper, unaries, ands, ors, imps, exprs, level_at, deep, read, relation_at, constant_at, function_at, symbol_at, label_at, labelled_at, claim_at, modifies_at, transition_at, after_brace, braces, trace_at, decl_at, before_all, file_on, file, whole}
+use Rattle.pyv_grammar.specs.Reading.{number, Got, Reader, eat, on, ◌>>=◌, give, refuse, and_then, sign, try, opens, wants, skip, separated, all_separated, never, listed, some_list, closed_list, name_at, bound_at, ends_open, joined, atom_at, comparison_at, binding_at, conditional_at, unary_at, imp_at, expr_at, Deeper, unaries, ands, ors, imps, exprs, level_at, deep, read, relation_at, constant_at, function_at, symbol_at, label_at, labelled_at, claim_at, modifies_at, transition_at, after_brace, braces, trace_at, decl_at, before_all, file_on, file, whole}
 use Rattle.pyv_grammar.proofs.Eat.{eat-some}
 use Rattle.pyv_grammar.proofs.Local.{LocalAt, Local, local_give, local_then, local_try}
 use Rattle.pyv_grammar.proofs.Strict.{Good, good_wants, local_separated, good_all_separated}

@@ -1,5 +1,5 @@
 -- The answer of the parser, from where reading stopped.
-use Rattle.std.proofs.Common.{◌≡◌, ℕ, ◌+◌, ◌-◌, ◌≤◌, ◌⊎◌, inl, inr, List, [], ◌∷◌, ◌++◌, length, drop, Result, Ok, Err, refl, sym, ap, subst, ◌∙◌, length-append, arith}
+use Rattle.std.proofs.Common.{◌≡◌, ℕ, ◌-◌, ◌≤◌, inl, inr, List, [], ◌∷◌, ◌++◌, length, drop, Result, Ok, Err, sym, ap, subst, ◌∙◌, length-append, arith}
 use Rattle.std.proofs.Math.Seq.{drop-append_seam}
 use Rattle.pyv_lex.specs.declared.token.Kind.{Kind}
 use Rattle.pyv_lex.specs.declared.token.Kind.TheVariants as kind
@@ -7,7 +7,7 @@ use Rattle.pyv_lex.specs.declared.token.Token.{Token}
 use Rattle.pyv_grammar.specs.declared.tree.Decl.{Decl}
 use Rattle.pyv_grammar.specs.declared.reading.Stuck.{Stuck}
 use Rattle.pyv_grammar.specs.declared.reading.Stuck.TheVariants.{Bad, Deep}
-use Rattle.pyv_grammar.specs.Grammar.{Endless, Within, SpellsFile}
+use Rattle.pyv_grammar.specs.Grammar.{Endless}
 use Rattle.pyv_grammar.specs.Reading.{whole}
 use Rattle.pyv_grammar.specs.Verdict.{Viable, Stops, GoesOn}
 use Rattle.pyv_grammar.proofs.Local.{left}
@@ -18,7 +18,7 @@ use Rattle.pyv_parse.specs.declared.halt.Halt.TheVariants as halt
 use Rattle.pyv_parse.specs.declared.fault.ParseFault.{ParseFault}
 use Rattle.pyv_parse.specs.declared.fault.ParseFault.TheVariants as fault
 use Rattle.pyv_parse.specs.Gives.{Fails}
-use Rattle.pyv_parse.specs.Faults.{limits, IsFile, IsUnlessMemory, IsLeftOut, IsUnsupported, BeginsUnsupported, StopsAt, IsParseFault}
+use Rattle.pyv_parse.specs.Faults.{limits, IsFile, IsUnlessMemory, IsLeftOut, BeginsUnsupported, IsParseFault}
 use Rattle.pyv_parse.specs.Told.{IsAmong, TellsBad, TellsDeep, last_of, Tells}
 use Rattle.pyv_parse.proofs.Openers.{Opens, deep_at_opener}
 

@@ -1,5 +1,5 @@
 -- What the parser's functions give, by the readers on lists.
-use Rattle.std.specs.Prelude.{◌≡◌, ℕ, max, Bool, true, false, List, [], ◌∷◌, ◌++◌, Result, Ok, Err}
+use Rattle.std.specs.Prelude.{◌≡◌, ℕ, max, Bool, true, false, List, [], ◌∷◌, ◌++◌, Option, None, Result, Ok, Err}
 use Rattle.pyv_lex.specs.declared.token.Kind.{Kind}
 use Rattle.pyv_lex.specs.declared.token.Kind.TheVariants as kind
 use Rattle.pyv_lex.specs.declared.token.Token.{Token}
@@ -9,7 +9,7 @@ use Rattle.pyv_grammar.specs.declared.tree.Expr.TheVariants as expr
 use Rattle.pyv_grammar.specs.declared.reading.Found.{Found}
 use Rattle.pyv_grammar.specs.declared.reading.Stuck.{Stuck}
 use Rattle.pyv_grammar.specs.Grammar.{Level, Unary, Ands, Exprs}
-use Rattle.pyv_grammar.specs.Reading.{Got, Reader, ◌>>=◌, give, read}
+use Rattle.pyv_grammar.specs.Reading.{Got, Reader, eat, ◌>>=◌, give, read}
 use Rattle.pyv_parse.specs.declared.halt.Halt.{Halt}
 use Rattle.pyv_parse.specs.declared.halt.Halt.TheVariants as halt
 use Rattle.pyv_parse.specs.declared.members.Connective.{Connective}
@@ -30,6 +30,11 @@ Gives see (Err e) got = Fails e got
 abbrev pub Makes : {X : Type 0} → Result X Halt → X → Type 0
 Makes (Ok x) y = x ≡ y
 Makes (Err e) y = e ≡ halt.Memory
+
+-- The token behind an operand, where it is of this kind. Where the operand ends open, none may stand there.
+abbrev pub eat_behind : (ends_open : Bool) → Kind → List Token → Option (Token × List Token)
+eat_behind true k ts = None
+eat_behind false k ts = eat k ts
 
 -- ---- lists, whose items are put behind those before one by one
 

@@ -1,7 +1,6 @@
 -- The fault that is told where reading stopped.
 use Rattle.std.specs.Prelude.{◌≡◌, ℕ, ◌-◌, ◌≤◌, List, length, drop}
 use Rattle.pyv_lex.specs.declared.token.Token.{Token}
-use Rattle.pyv_grammar.specs.declared.reading.Stuck.{Stuck}
 use Rattle.pyv_grammar.specs.declared.reading.Stuck.TheVariants.{Bad, Deep}
 use Rattle.pyv_parse.specs.declared.halt.Halt.{Halt}
 use Rattle.pyv_parse.specs.declared.halt.Halt.TheVariants as halt

@@ -10,7 +10,7 @@ use crate::nodes::{
     after_step, closed, conditional, equality, equivalence, implication, inequality, negation,
     quantified,
 };
-use crate::reader::{bad, deeper, eat, skip, too_deep, wants};
+use crate::reader::{bad, behind, deeper, eat, lower, skip, wants};
 use fo_core::Seq;
 use pyv_grammar::{Expr, Found};
 use pyv_lex::{Kind, Token};
@@ -29,16 +29,11 @@ pub(crate) fn expr(
     ensures within { IfOk result (λ x. (length x.1.now < length tokens.now) × (x.0.height ≤ height)) }
 {
     let (left, rest) = without_iff(alloc, tokens, room, height)?;
-    if left.ends_open {
-        return Ok((left, rest));
-    }
-    let Some((sign, after)) = eat(rest, Kind::Iff) else {
+    let Some((sign, after)) = behind(&left, rest, Kind::Iff) else {
         return Ok((left, rest));
     };
-    if left.height >= height {
-        return Err(too_deep(rest));
-    }
-    let (right, rest) = without_iff(alloc, after, room, height - 1)?;
+    let lower = lower(&left, rest, height)?;
+    let (right, rest) = without_iff(alloc, after, room, lower)?;
     Ok((equivalence(alloc, sign, left, right)?, rest))
 }
 
@@ -55,10 +50,7 @@ fn without_iff(
     ensures within { IfOk result (λ x. (length x.1.now < length tokens.now) × (x.0.height ≤ height)) }
 {
     let (premise, rest) = joined(alloc, Connective::Or, tokens, room, height)?;
-    if premise.ends_open {
-        return Ok((premise, rest));
-    }
-    let Some((sign, after)) = eat(rest, Kind::Implies) else {
+    let Some((sign, after)) = behind(&premise, rest, Kind::Implies) else {
         return Ok((premise, rest));
     };
     let room = deeper(rest, room)?;
@@ -81,10 +73,7 @@ fn joined(
 {
     let front = skip(tokens, sign(connective));
     let (first, rest) = operand(alloc, connective, front, room, height)?;
-    if first.ends_open {
-        return Ok((first, rest));
-    }
-    let Some((token, after)) = eat(rest, sign(connective)) else {
+    let Some((token, after)) = behind(&first, rest, sign(connective)) else {
         return Ok((first, rest));
     };
     let mut members = no_members(alloc);
@@ -129,12 +118,9 @@ fn operands(
     let mut rest = tokens;
     loop {
         let (found, after) = operand(alloc, connective, rest, room, height)?;
-        let ends_open = found.ends_open;
+        let next = behind(&found, after, sign(connective));
         put(&mut members, found)?;
-        if ends_open {
-            return Ok((members, after));
-        }
-        match eat(after, sign(connective)) {
+        match next {
             Some((_, next)) => rest = next,
             None => return Ok((members, after)),
         }

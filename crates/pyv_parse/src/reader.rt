@@ -1,9 +1,9 @@
 ghost use Rattle.std.specs.Prelude.{◌≡◌, ◌+◌, ◌<◌, ◌≤◌, Some, None, MatchOption, IfOk, IfErr, IfSome, length};
 ghost use Rattle.pyv_grammar.specs.Reading.{eat as eat_of, skip as skip_of, wants as wants_of};
-ghost use Rattle.pyv_parse.specs.Gives.{Gives};
+ghost use Rattle.pyv_parse.specs.Gives.{Gives, eat_behind};
 
 use crate::halt::Halt;
-use pyv_grammar::Stuck;
+use pyv_grammar::{Found, Stuck};
 use pyv_lex::{Kind, Token};
 
 /// The token at the front, where it is of this kind, and what follows it.
@@ -63,4 +63,30 @@ pub(crate) fn deeper(tokens: &[Token], room: u32) -> Result<u32, Halt>
         return Err(too_deep(tokens));
     }
     Ok(room - 1)
+}
+
+/// The token behind an operand, where it is of this kind and the operand doesn't end open.
+pub(crate) fn behind<'a>(
+    operand: &Found,
+    tokens: &'a [Token],
+    kind: Kind,
+) -> Option<(Token, &'a [Token])>
+    ensures is { MatchOption result (eat_behind operand.now.ends_open kind tokens.now ≡ None) (λ x. eat_behind operand.now.ends_open kind tokens.now ≡ Some (x.0, x.1.now)) }
+    ensures shorter { IfSome result (λ x. length x.1.now < length tokens.now) }
+{
+    if operand.ends_open {
+        return None;
+    }
+    eat(tokens, kind)
+}
+
+/// The height of both sides of a `<->`, the first of these tokens, whose left side was read.
+pub(crate) fn lower(left: &Found, tokens: &[Token], height: u32) -> Result<u32, Halt>
+    ensures ok { IfOk result (λ h. (left.now.height ≤ h) × (height ≡ h + 1)) }
+    ensures err { IfErr result (λ e. (height ≤ left.now.height) × (e ≡ Halt.Stuck (Stuck.Deep (length tokens.now)))) }
+{
+    if left.height >= height {
+        return Err(too_deep(tokens));
+    }
+    Ok(height - 1)
 }

@@ -1,4 +1,4 @@
-use Rattle.std.proofs.Common.{◌≡◌, ◌≤◌, length, Ok, true, false, refl, sym, ap, ◌∙◌, arith}
+use Rattle.std.proofs.Common.{true, false, refl, sym, ap, ◌∙◌, arith}
 use Rattle.std.proofs.lemmas.Result.{err_from_is_err_and}
 use Rattle.pyv_grammar.specs.Grammar.{Exprs}
 use Rattle.pyv_grammar.specs.Reading.{read, skip, never, ends_open, found}
@@ -7,7 +7,7 @@ use Rattle.pyv_lex.specs.declared.token.Kind.TheVariants as kind
 use Rattle.pyv_grammar.specs.declared.tree.Expr.TheVariants as expr
 use Rattle.pyv_grammar.proofs.Good.{good_read}
 use Rattle.pyv_parse.specs.Gives.{put_member, operand_of, sign_of, node_for}
-use Rattle.pyv_parse.proofs.Loops.{goes_on, ends_there, stops, fails, fails_then}
+use Rattle.pyv_parse.proofs.Loops.{goes_on, stops, fails, fails_then}
 use Rattle.pyv_parse.proofs.Gathered.{made_of, none_made, distinct_made, closed_by, not_closed, none_listed, many}
 use Rattle.pyv_parse.proofs.Steps.{at_bang, at_forall, at_exists, at_if, at_word, at_new, at_distinct, at_bracket, at_implies}
 use Rattle.pyv_parse.proofs.exprs.+expressions.Goals as goal
@@ -52,12 +52,12 @@ named-returns-in_err-members-clause-gives t c =
 pub without_iff-returns-clause-gives : goal.without_iff-returns-clause-gives
 without_iff-returns-clause-gives t c =
     rw c.in_ok-implication.ensures.made
-    (at_implies c.args.room c.args.height c.in_ok-room.room c.in_ok-room.ensures.ok c.args.tokens.now _ _ _ c.in_ok-premise.premise c.in_ok-premise.ensures.gives c.if-premise.false c.in-Some.ensures.is ∙ rw c.in_ok-conclusion.ensures.gives refl)
+    (at_implies c.args.room c.args.height c.in_ok-room.room c.in_ok-room.ensures.ok c.args.tokens.now _ _ _ c.in_ok-premise.premise c.in_ok-premise.ensures.gives c.in-Some.ensures.is ∙ rw c.in_ok-conclusion.ensures.gives refl)
 
 pub without_iff-returns-in_err-conclusion-clause-gives : goal.without_iff-returns-in_err-conclusion-clause-gives
 without_iff-returns-in_err-conclusion-clause-gives t c =
     let p = err_from_is_err_and c.from_residual-in_err-conclusion.result c.from_residual-in_err-conclusion.ensures.1 in
-    rw (p.1, p.2, at_implies c.args.room c.args.height c.in_ok-room.room c.in_ok-room.ensures.ok c.args.tokens.now _ _ _ c.in_ok-premise.premise c.in_ok-premise.ensures.gives c.if-premise.false c.in-Some.ensures.is)
+    rw (p.1, p.2, at_implies c.args.room c.args.height c.in_ok-room.room c.in_ok-room.ensures.ok c.args.tokens.now _ _ _ c.in_ok-premise.premise c.in_ok-premise.ensures.gives c.in-Some.ensures.is)
     (fails_then _ c.in_err-conclusion.field-0.0 _ c.in_err-conclusion.ensures.gives)
 
 pub distinct-returns-clause-gives : goal.distinct-returns-clause-gives
@@ -69,7 +69,7 @@ joined-returns-clause-gives t c =
     let e = read c.args.room c.args.height (operand_of c.args.connective) in
     let front = c.skip-front.ensures.is ∙ ap (λ (k : Kind). skip k c.args.tokens.now) c.sign.ensures in
     rw c.join.ensures
-    (many e (sign_of c.args.connective) (node_for c.args.connective) c.args.tokens.now _ _ _ c.in-Some.token c.in_ok-first.first c.in_ok-members.members (ap e (sym front) ∙ c.in_ok-first.ensures.gives) c.if-first.false
+    (many e (sign_of c.args.connective) (node_for c.args.connective) c.args.tokens.now _ _ _ c.in-Some.token c.in_ok-first.first c.in_ok-members.members (ap e (sym front) ∙ c.in_ok-first.ensures.gives)
     (rw c.sign-2.ensures at c.in-Some.ensures.is) (rw (c.in_ok-put.ensures.ok, c.no_members-members.ensures) at c.in_ok-members.ensures.gives))
 
 pub arguments-returns-in_err-found-clause-gives : goal.arguments-returns-in_err-found-clause-gives
@@ -81,7 +81,7 @@ arguments-returns-in_err-found-clause-gives t c =
 
 pub arguments-loop-members-preserved : goal.arguments-loop-members-preserved
 arguments-loop-members-preserved t c = record {
-  same = rw c.in_ok-put.ensures.ok (goes_on put_member never (read c.args.room c.args.height Exprs) kind.Comma (good_read c.args.room c.args.height Exprs).is_strict c.loop-members.members c.loop-members.rest.now _ _ _ _ c.in_ok-found.ensures.gives refl c.in-Some.ensures.is)
+  same = rw c.in_ok-put.ensures.ok (goes_on put_member never (read c.args.room c.args.height Exprs) kind.Comma (good_read c.args.room c.args.height Exprs).is_strict c.loop-members.members c.loop-members.rest.now _ _ _ _ c.in_ok-found.ensures.gives c.in-Some.ensures.is)
       ∙ c.loop-members.invariant.same;
   shorter = omega (arith, c.in_ok-found.ensures.within, c.in-Some.ensures.shorter);
   low = rw c.in_ok-put.ensures.ok (omega (arith, c.in_ok-found.ensures.within, c.loop-members.invariant.low));
@@ -92,14 +92,14 @@ arguments-returns-in_err-end-in-None-clause-gives t c =
     let e = read c.args.room c.args.height Exprs in
     let p = err_from_is_err_and c.from_residual-in_err-end-in-None.result c.from_residual-in_err-end-in-None.ensures.1 in
     rw (p.1, p.2) (not_closed e c.args.tokens.now _ c.in_err-end-in-None.field-0.0 c.put.new.members
-    (rw c.in_ok-put.ensures.ok (sym c.loop-members.invariant.same ∙ stops put_member never e kind.Comma (good_read c.args.room c.args.height Exprs).is_strict c.loop-members.members c.loop-members.rest.now _ _ c.in_ok-found.ensures.gives refl c.in-None.ensures.is))
+    (rw c.in_ok-put.ensures.ok (sym c.loop-members.invariant.same ∙ stops put_member never e kind.Comma (good_read c.args.room c.args.height Exprs).is_strict c.loop-members.members c.loop-members.rest.now _ _ c.in_ok-found.ensures.gives c.in-None.ensures.is))
     c.in_err-end-in-None.ensures.gives)
 
 pub arguments-returns-in-None-clause-gives : goal.arguments-returns-in-None-clause-gives
 arguments-returns-in-None-clause-gives t c =
     let e = read c.args.room c.args.height Exprs in
     closed_by e c.args.tokens.now _ _ _ c.put.new.members
-    (rw c.in_ok-put.ensures.ok (sym c.loop-members.invariant.same ∙ stops put_member never e kind.Comma (good_read c.args.room c.args.height Exprs).is_strict c.loop-members.members c.loop-members.rest.now _ _ c.in_ok-found.ensures.gives refl c.in-None.ensures.is))
+    (rw c.in_ok-put.ensures.ok (sym c.loop-members.invariant.same ∙ stops put_member never e kind.Comma (good_read c.args.room c.args.height Exprs).is_strict c.loop-members.members c.loop-members.rest.now _ _ c.in_ok-found.ensures.gives c.in-None.ensures.is))
     c.in_ok-end-in-None.ensures.gives
 
 pub operands-returns-in_err-found-clause-gives : goal.operands-returns-in_err-found-clause-gives
@@ -110,20 +110,13 @@ operands-returns-in_err-found-clause-gives t c =
     let p = err_from_is_err_and c.from_residual.result c.from_residual.ensures.1 in
     rw (p.1, p.2, ← c.loop-members.invariant.same) (fails put_member ends_open e k (good_read c.args.room c.args.height l).is_strict c.loop-members.members c.loop-members.rest.now c.in_err-found.field-0.0 c.in_err-found.ensures.gives)
 
-pub operands-returns-then-ends_open-clause-gives : goal.operands-returns-then-ends_open-clause-gives
-operands-returns-then-ends_open-clause-gives t c =
-    let l = operand_of c.args.connective in
-    let e = read c.args.room c.args.height l in
-    let k = sign_of c.args.connective in
-    rw c.in_ok-put.ensures.ok (sym c.loop-members.invariant.same ∙ ends_there put_member ends_open e k (good_read c.args.room c.args.height l).is_strict c.loop-members.members c.loop-members.rest.now _ c.in_ok-found.found c.in_ok-found.ensures.gives c.if-ends_open.true)
-
 pub operands-loop-members-preserved : goal.operands-loop-members-preserved
 operands-loop-members-preserved t c =
     let l = operand_of c.args.connective in
     let e = read c.args.room c.args.height l in
     let k = sign_of c.args.connective in
     record {
-      same = rw c.in_ok-put.ensures.ok (goes_on put_member ends_open e k (good_read c.args.room c.args.height l).is_strict c.loop-members.members c.loop-members.rest.now _ _ _ c.in_ok-found.found c.in_ok-found.ensures.gives c.if-ends_open.false (rw c.sign.ensures at c.in-Some.ensures.is)) ∙ c.loop-members.invariant.same;
+      same = rw c.in_ok-put.ensures.ok (goes_on put_member ends_open e k (good_read c.args.room c.args.height l).is_strict c.loop-members.members c.loop-members.rest.now _ _ _ c.in_ok-found.found c.in_ok-found.ensures.gives (rw c.sign.ensures at c.in-Some.ensures.is)) ∙ c.loop-members.invariant.same;
       shorter = omega (arith, c.in_ok-found.ensures.within, c.in-Some.ensures.shorter);
       low = rw c.in_ok-put.ensures.ok (omega (arith, c.in_ok-found.ensures.within, c.loop-members.invariant.low));
     }
@@ -133,4 +126,4 @@ operands-returns-in-None-clause-gives t c =
     let l = operand_of c.args.connective in
     let e = read c.args.room c.args.height l in
     let k = sign_of c.args.connective in
-    rw c.in_ok-put.ensures.ok (sym c.loop-members.invariant.same ∙ stops put_member ends_open e k (good_read c.args.room c.args.height l).is_strict c.loop-members.members c.loop-members.rest.now _ c.in_ok-found.found c.in_ok-found.ensures.gives c.if-ends_open.false (rw c.sign.ensures at c.in-None.ensures.is))
+    rw c.in_ok-put.ensures.ok (sym c.loop-members.invariant.same ∙ stops put_member ends_open e k (good_read c.args.room c.args.height l).is_strict c.loop-members.members c.loop-members.rest.now _ c.in_ok-found.found c.in_ok-found.ensures.gives (rw c.sign.ensures at c.in-None.ensures.is))

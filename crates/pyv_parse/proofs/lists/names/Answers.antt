@@ -1,4 +1,4 @@
-use Rattle.std.proofs.Common.{◌≡◌, ◌≤◌, length, refl, sym, ◌∙◌, arith}
+use Rattle.std.proofs.Common.{sym, ◌∙◌, arith}
 use Rattle.std.proofs.lemmas.Result.{err_from_is_err_and}
 use Rattle.pyv_lex.specs.declared.token.Kind.TheVariants as kind
 use Rattle.pyv_grammar.specs.Reading.{name_at, listed, never}
@@ -20,10 +20,10 @@ returns-in_err-item-clause-gives c =
 
 pub loop-found-preserved : goal.loop-found-preserved
 loop-found-preserved c = record {
-  same = rw c.in_ok-push.ensures.ok (goes_on put_last never name_at kind.Comma good_name.is_strict c.loop-found.found c.loop-found.rest.now _ _ _ _ c.in_ok-item.ensures.gives refl c.in-Some.ensures.is) ∙ c.loop-found.invariant.same;
+  same = rw c.in_ok-push.ensures.ok (goes_on put_last never name_at kind.Comma good_name.is_strict c.loop-found.found c.loop-found.rest.now _ _ _ _ c.in_ok-item.ensures.gives c.in-Some.ensures.is) ∙ c.loop-found.invariant.same;
   shorter = omega (arith, c.in_ok-item.ensures.shorter, c.in-Some.ensures.shorter);
 }
 
 pub returns-in-None-clause-gives : goal.returns-in-None-clause-gives
 returns-in-None-clause-gives c =
-    rw c.in_ok-push.ensures.ok (sym c.loop-found.invariant.same ∙ stops put_last never name_at kind.Comma good_name.is_strict c.loop-found.found c.loop-found.rest.now _ _ c.in_ok-item.ensures.gives refl c.in-None.ensures.is)
+    rw c.in_ok-push.ensures.ok (sym c.loop-found.invariant.same ∙ stops put_last never name_at kind.Comma good_name.is_strict c.loop-found.found c.loop-found.rest.now _ _ c.in_ok-item.ensures.gives c.in-None.ensures.is)

@@ -1,4 +1,4 @@
-use Rattle.std.proofs.Common.{◌≡◌, sym, ap, ◌∙◌, rules}
+use Rattle.std.proofs.Common.{sym, ap, ◌∙◌, rules}
 use denote.Enum.Bare.{same_true, same_false}
 use Rattle.pyv_lex.specs.contracts.token.Kind.{the_type}
 use Rattle.pyv_grammar.specs.Reading.{eat}
