@@ -70,7 +70,7 @@ bounded_file (rule.SpellsFile.then x xs a b d f) =
     let q = bounded_file f in
     record { least = p.least + q.least; at = λ m w le lw. rule.SpellsFile.then x xs a b (p.at m w (omega arith) (omega arith)) (q.at m w (omega arith) (omega arith)) }
 
-endless_file : {n v : ℕ} {xs : List Decl} {s : List Token} → SpellsFile (Within n v) xs s → SpellsFile Endless xs s
+pub endless_file : {n v : ℕ} {xs : List Decl} {s : List Token} → SpellsFile (Within n v) xs s → SpellsFile Endless xs s
 endless_file rule.SpellsFile.end = rule.SpellsFile.end
 endless_file {n = n} {v = v} (rule.SpellsFile.then x xs a b d f) = rule.SpellsFile.then x xs a b ((exact_decl n v).wider x a d) (endless_file f)
 
@@ -80,12 +80,12 @@ forget (Within n v) xs s h = endless_file h
 
 -- ---- reading
 
-file_step : (f : Reader Decl) (m : ℕ) (u : List Token) → 0 < length u → file f (suc m) u ≡ file_on (f u) (file f m)
+pub file_step : (f : Reader Decl) (m : ℕ) (u : List Token) → 0 < length u → file f (suc m) u ≡ file_on (f u) (file f m)
 unfolding file
 file_step f m [] h = absurd (omega arith)
 file_step f m (t ∷ u) h = refl
 
-file_nil : (f : Reader Decl) (m : ℕ) → file f (suc m) [] ≡ Ok []
+pub file_nil : (f : Reader Decl) (m : ℕ) → file f (suc m) [] ≡ Ok []
 unfolding file
 file_nil f m = refl
 

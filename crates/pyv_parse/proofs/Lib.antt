@@ -1,0 +1,9 @@
+pub mod Curly
+pub mod Declared
+pub mod Gathered
+pub mod LeftOut
+pub mod Loops
+pub mod Openers
+pub mod Ranks
+pub mod Steps
+pub mod Verdicts

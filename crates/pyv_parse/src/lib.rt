@@ -1,0 +1,18 @@
+//! Trees of the mypyvy language, read from tokens.
+#![tactic(auto)]
+
+mod decls;
+mod exprs;
+mod fault;
+mod file;
+mod halt;
+mod lists;
+mod members;
+mod nodes;
+mod reader;
+
+pub use fault::ParseFault;
+pub use file::{one_tree, parse};
+
+#[cfg(test)]
+mod tests;
