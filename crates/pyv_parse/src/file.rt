@@ -15,13 +15,15 @@ use pyv_grammar::{Decl, Model, Stuck};
 use pyv_lex::{Kind, Token};
 use std::alloc::Global;
 
-/// The model that the tokens of a text spell.
+/// The model that the tokens of a text spell, by recursive descent.
 ///
-/// The text has to have fewer than 2^32 bytes, and the tokens are those that `pyv_lex::tokens` answers
-/// for it. Expressions may be nested 200 deep, and `<->` and `if` may stand 6 high in each other. The
-/// fault is at the first token by which no tree goes on, where the end of the text counts as a token:
-/// `TooDeep` where one goes on by it under larger limits, `Unsupported` where the token belongs to a part
-/// of the language that is left out, and else `Syntax`. The time and the memory are linear.
+/// The text has to have fewer than 2^32 bytes; `pyv_lex::tokens` cuts it into tokens. Expressions may
+/// be nested 200 deep, and `<->` and `if` may stand 6 high in each other. Else the fault is at the first
+/// token by which no model goes on, where the end of the text counts as a token (the viable-prefix
+/// property: Aho and Ullman, The Theory of Parsing, Translation, and Compiling, 1972): `TooDeep` where
+/// one goes on by it under larger limits, `Unsupported` where it belongs to a part of the language that
+/// is left out, and else `Syntax`. Time and memory are linear in the number of tokens, and the
+/// recursion is bounded by the limits, whatever the tokens are.
 pub fn parse(alloc: Global, bytes: &[u8], tokens: &[Token]) -> Result<Model, ParseFault>
     requires { length bytes.now < 2 ^ 32 }
     // What is answered spells the tokens within the limits.
