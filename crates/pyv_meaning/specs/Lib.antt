@@ -1,0 +1,15 @@
+pub mod Bodies
+pub mod Builds
+pub mod Clashes
+pub mod Closing
+pub mod Declaring
+pub mod Front
+pub mod Gets
+pub mod Items
+pub mod Meaning
+pub mod Means
+pub mod NameFaults
+pub mod Scope
+pub mod Tree
+pub mod Uses
+pub mod View
