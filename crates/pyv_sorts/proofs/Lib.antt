@@ -1,0 +1,16 @@
+pub mod Appends
+pub mod Bodies
+pub mod Elaborates
+pub mod Hiding
+pub mod Joining
+pub mod Marking
+pub mod Meant
+pub mod Naming
+pub mod Noted
+pub mod Numbering
+pub mod Picking
+pub mod Resolving
+pub mod Sorting
+pub mod Uniting
+pub mod Views
+pub mod Wording

@@ -1,0 +1,13 @@
+pub mod Answers
+pub mod Building
+pub mod Classes
+pub mod Closures
+pub mod Elaborating
+pub mod Entering
+pub mod Inferring
+pub mod Lists
+pub mod Noting
+pub mod Parts
+pub mod Placing
+pub mod Tells
+pub mod Vocabulary
