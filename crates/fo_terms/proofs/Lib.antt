@@ -1,0 +1,17 @@
+pub mod BaseLemmas
+pub mod BlockLemmas
+pub mod Built
+pub mod CountLemmas
+pub mod Cuts
+pub mod Functions
+pub mod ListLemmas
+pub mod NodeRows
+pub mod PlaceSteps
+pub mod RankLemmas
+pub mod Reckoned
+pub mod Rising
+pub mod Sums
+pub mod TupleLemmas
+pub mod UniverseLemmas
+pub mod WeighLemmas
+pub mod WeightLemmas

@@ -1,0 +1,12 @@
+use Rattle.std.proofs.Common.{◌<◌, length, get_or, sym, subst}
+use Rattle.fo_norm.specs.Extended.{extended}
+use Rattle.fo_terms.proofs.Functions.{numbers-are}
+use Rattle.fo_terms.proofs.build.push_sort.Goals as goal
+
+pub symbol_of-symbol-requires : goal.symbol_of-symbol-requires
+symbol_of-symbol-requires c =
+    let S = extended c.args.sig.now c.args.form.now.skolems in
+    let are = numbers-are S c.args.sort in
+    let lt = c.each-test.true in
+    subst (λ ks. get_or ks c.each.number-index 0 < length S.symbols) (sym c.requires.functions)
+    (are c.each.number-index 0 (subst (λ ks. c.each.number-index < length ks) c.requires.functions lt)).0

@@ -1,0 +1,20 @@
+//! The ground terms of a Skolem form: how many there are, the list of them, and the weight of the form.
+#![tactic(auto)]
+
+mod build;
+mod counting;
+mod places;
+mod ranking;
+mod symbols;
+mod terms;
+#[cfg(test)]
+mod tests;
+mod weighing;
+
+pub use build::universe;
+pub use counting::counts;
+pub use places::Places;
+pub use ranking::rises;
+pub use symbols::symbol_of;
+pub use terms::{Ground, Universe};
+pub use weighing::weight;
