@@ -1,0 +1,10 @@
+use Rattle.std.proofs.Common.{◌≡◌, map}
+use Rattle.std.specs.List.{range_with_len}
+use Rattle.prop_core.specs.Formula.{value_of}
+use Rattle.fo_ground.specs.Classes.{class_of}
+use Rattle.fo_ground.specs.Layout.{slot, same_by, fact_by}
+use Rattle.fo_ground.proofs.classes.read_classes.Given as goal
+
+-- the terms before this one have their classes' numbers
+abbrev pub invariant-each : goal.invariant-each
+invariant-each l = l.numbers.items ≡ map (class_of l.u.terms (slot l.u l.lay l.lay.sig) (same_by l.u l.lay l.lay.sig (value_of l.values)) (fact_by l.u l.lay l.lay.sig (value_of l.values))) (range_with_len 0 l.p)

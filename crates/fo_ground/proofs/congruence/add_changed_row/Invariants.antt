@@ -1,0 +1,8 @@
+use Rattle.std.proofs.Common.{ℕ, ◌<◌, ◌≤◌, []}
+use Rattle.fo_ground.specs.Axioms.{IsChangedTerm}
+use Rattle.fo_ground.specs.Emits.{Adds}
+use Rattle.fo_ground.proofs.congruence.add_changed_row.Given as goal
+
+-- the arguments before this one were changed
+abbrev pub invariant-each : goal.invariant-each
+invariant-each l = Adds l.lay.base [] (λ v. (t : ℕ) → 0 ≤ t → t < l.i → IsChangedTerm l.u l.lay l.place t v) l.fn.into.vars l.fn.into.clauses l.into.vars l.into.clauses

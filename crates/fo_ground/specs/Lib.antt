@@ -1,0 +1,9 @@
+pub mod Instances
+pub mod Classes
+pub mod GroundValues
+pub mod Emits
+pub mod Layout
+pub mod Numbers
+pub mod Grounds
+pub mod Axioms
+pub mod Reading
