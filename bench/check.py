@@ -26,6 +26,19 @@ def model(inits):
     return "\n".join(lines) + "\n"
 
 
+def wide(members):
+    """A model with one init of so many members, each of which is closed by itself."""
+    body = " & ".join(f"!held(N{k % 60})" for k in range(members))
+    return model(0).replace("transition", f"init {body}\ntransition", 1)
+
+
+def equal(bodies):
+    """A model with so many axioms, each a chain of equalities that ends in a constant."""
+    chain = " & ".join(f"A{k} = A{k + 1}" for k in range(50)) + " & A50 = one"
+    lines = ["immutable constant one: node"] + [f"axiom {chain} -> A0 = one"] * bodies
+    return model(1).replace("init", "\n".join(lines) + "\ninit", 1)
+
+
 def report(size, steps):
     """Node after node is grabbed; the safety fails at once."""
     lines = ["report 1", f"verdict unsafe {steps}", f"world {steps + 1}", f"sort node {size}", "fixed"]
@@ -59,6 +72,10 @@ def main():
         sys.exit("build crates/updr first")
     for inits in (7500, 15000, 30000):
         run(f"{inits} inits, 2 nodes", model(inits), report(2, 1))
+    for members in (8000, 16000, 32000):
+        run(f"1 init of {members} members", wide(members), report(2, 1))
+    for bodies in (200, 400, 800):
+        run(f"{bodies} chains of 51 equalities", equal(bodies), report(1, 0))
     for steps in (16, 32, 64):
         run(f"{steps} steps, 500 nodes", model(1), report(500, steps))
     for size in (65536, 131072, 262144, 523000):

@@ -1,0 +1,102 @@
+//! Grounds forms, for bench/. Each line of standard input has two numbers: how many constants there are
+//! of the one sort, and how many claims say that a relation holds of all elements or of none. It prints
+//! the weight of the form, and how many atoms and clauses it has.
+#![tactic(auto)]
+
+ghost use Rattle.std.specs.Prelude.{◌≤◌, IfOk};
+ghost use Rattle.fo_core.specs.Sorted.{IsSig};
+ghost use Rattle.fo_core.specs.SortGraph.{FunctionEdge, Rises};
+ghost use Rattle.fo_norm.specs.Extended.{extended};
+ghost use Rattle.fo_norm.specs.Forms.{IsForm};
+ghost use Rattle.fo_terms.specs.Counts.{term_counts};
+ghost use Rattle.fo_terms.specs.FormWeight.{form_weight};
+
+mod forms;
+
+use fo_core::{Order, Query, Seq, Sig};
+use fo_ground::ground;
+use fo_norm::{SkolemForm, normal};
+use fo_terms::{counts, rises, universe, weight};
+use std::alloc::Global;
+use std::io::{BufRead, BufReader};
+
+/// What is printed of a form.
+#[derive(Drop)]
+struct Size {
+    weight: u64,
+    atoms: u32,
+    clauses: usize,
+}
+
+/// One sort, numbered 0.
+fn order(alloc: Global) -> anyhow::Result<Order> {
+    let numbers = [0].to_vec(alloc)?;
+    Ok(Order {
+        numbers: Seq::from_vec(numbers),
+    })
+}
+
+/// The weight of a form.
+fn weight_of(alloc: Global, sig: &Sig, form: &SkolemForm, order: &Order) -> anyhow::Result<u64>
+    requires sig { IsSig sig.now }
+    requires form { IsForm sig.now form.now }
+    requires rises { Rises (FunctionEdge (extended sig.now form.now.skolems)) sig.now.sorts order.now.numbers }
+    ensures { IfOk result (λ w. w ≤ 4000000 → form_weight sig.now form.now (term_counts (extended sig.now form.now.skolems) form.now.copies) ≤ 4000000) }
+{
+    let counts = counts(alloc, sig, form, order)?;
+    Ok(weight(sig, form, counts.as_slice()))
+}
+
+/// How large the clauses of a form are.
+fn size(alloc: Global, sig: &Sig, form: &SkolemForm) -> anyhow::Result<Size>
+    requires sig { IsSig sig.now }
+    requires form { IsForm sig.now form.now }
+{
+    let order = order(alloc)?;
+    anyhow::ensure!(rises(sig, form, &order), "no order");
+    let weight = weight_of(alloc, sig, form, &order)?;
+    anyhow::ensure!(weight <= 4_000_000, "too heavy");
+    let universe = universe(alloc, sig, form, &order)?;
+    let grounded = ground(alloc, sig, form, &universe)?;
+    Ok(Size {
+        weight,
+        atoms: grounded.cnf.vars,
+        clauses: grounded.cnf.clauses.len(),
+    })
+}
+
+/// Grounds the form with so many constants and claims.
+fn weigh(alloc: Global, constants: usize, claims: usize) -> anyhow::Result<Size> {
+    let system = forms::system(alloc, constants, claims)?;
+    anyhow::ensure!(system.is_well_sorted(alloc)?, "not well-sorted");
+    let query = Query {
+        copies: 1,
+        claims: system.axioms,
+    };
+    let form = normal(alloc, &system.sig, &query)?;
+    size(alloc, &system.sig, &form)
+}
+
+/// Reads two numbers.
+fn numbers(line: &str) -> anyhow::Result<(usize, usize)> {
+    let mut words = line.split_whitespace();
+    match (words.next(), words.next()) {
+        (Some(constants), Some(claims)) => Ok((constants.parse()?, claims.parse()?)),
+        _ => anyhow::bail!("two numbers are wanted"),
+    }
+}
+
+fn main(rt: HostRuntime) -> anyhow::Result<()> {
+    let alloc = rt.alloc();
+    for line in BufReader::new(alloc, rt.reader())?.lines(alloc) {
+        let line = line?;
+        let (constants, claims) = numbers(&line)?;
+        let Size {
+            weight,
+            atoms,
+            clauses,
+        } = weigh(alloc, constants, claims)?;
+        println!(rt; "weight {weight}: {atoms} atoms, {clauses} clauses")?;
+    }
+    Ok(())
+}
