@@ -1,3 +1,10 @@
-pub mod Each
+pub mod Causes
+pub mod Deciding
+pub mod Exclusive
+pub mod Modelling
 pub mod Prefixes
+pub mod Reports
+pub mod Spans
+pub mod Stopping
 pub mod Table
+pub mod Walking

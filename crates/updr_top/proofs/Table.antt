@@ -1,98 +1,48 @@
 -- The table of statuses follows from the stages.
-use Rattle.std.proofs.Common.{◌≡◌, ◌⊎◌, ◌<◌, ◌≤◌, ◌∙◌, ◌++◌, ℕ, zero, suc, Option, Some, List, [], ◌∷◌, length, ap, sym, subst, inl, inr, refl, arith, IfSome}
+use Rattle.std.proofs.Common.{◌≡◌, ◌⊎◌, ◌<◌, ◌≤◌, ◌∙◌, ◌++◌, ℕ, Option, Some, List, [], ◌∷◌, length, ap, sym, subst, inl, inr, refl, arith, IfSome}
 use Rattle.std.specs.Prelude.{codes}
 use Rattle.std.specs.List.{Contains}
 use Rattle.pv_base.specs.Counts.{Rose}
 use Rattle.pv_base.specs.Written.{Appends}
 use Rattle.pv_base.specs.Reading.{IsContent, limit}
-use Rattle.up_cert.specs.declared.spot.Spot.{Spot}
-use Rattle.updr_top.specs.Ends.{End, IsProper, IsAnswered, IsRefused, refusal, out_of_memory, usage, cannot_read, is_longer}
-use Rattle.updr_top.specs.Outside.{Outside, RefusesFile, IsUnread, IsTooLong, reading}
-use Rattle.updr_top.specs.Stages.{stage}
-use Rattle.updr_top.specs.Judging.{judged_end, spot_words}
+use Rattle.updr_top.specs.Ends.{End, IsProper, IsAnswered, IsRefused, out_of_memory, is_longer}
+use Rattle.updr_top.specs.Outside.{Outside, RefusesFile, IsUnread, IsTooLong}
 use Rattle.updr_top.specs.Telling.{Sunk, Tells, IsAnswer, IsCutShort, TakesAll}
-use Rattle.updr_top.specs.Course.{Command, checking, stages}
-use Rattle.updr_top.specs.Course.Command.{Usage, Check}
+use Rattle.updr_top.specs.Course.{Command, Usage, Check, checking, stages}
 use Rattle.updr_top.specs.Table.{IsInPlace, ComesExactly, files_of, IsReadFault, HasLong, LongIsRefused, IsWriteFault, LeavesOut, Gains, IsStatus}
-use Rattle.updr_top.specs.declared.judging.Judged.{Judged}
-use Rattle.updr_top.specs.declared.judging.Judged.TheVariants.{NotBuilt, Holds, Wrong}
-use Rattle.updr_top.specs.declared.judging.Which.TheVariants.{Model, Report}
-use Rattle.updr_top.proofs.Each.{reading_each, stage_each}
+use Rattle.updr_top.proofs.Causes.{status_is, CheckEnd, unread, long, decided, check_end, Kind, zero, six, twelve, thirteen, seventeen, nineteen, kind, refusal_status, stages_proper}
 
-status_is : (a b : End) → a ≡ b → a.status ≡ b.status
-status_is a b is = ap (λ (e : End). e.status) is
+-- which statuses the ends of a check have
+statuses : (e : End) → Kind e → (e.status ≡ 0) ⊎ (e.status ≡ 6) ⊎ (e.status ≡ 12) ⊎ (e.status ≡ 13) ⊎ (e.status ≡ 17) ⊎ (e.status ≡ 19)
+statuses e (zero is) = inl (status_is e _ is)
+statuses e (six words is _ _) = inr (inl is)
+statuses e (twelve r) = inr (inr (inl (refusal_status 12 e r)))
+statuses e (thirteen r) = inr (inr (inr (inl (refusal_status 13 e r))))
+statuses e (seventeen r) = inr (inr (inr (inr (inl (refusal_status 17 e r)))))
+statuses e (nineteen r) = inr (inr (inr (inr (inr (refusal_status 19 e r)))))
 
--- the ends of `check` by their causes
-pub data CheckEnd (o : Outside) (m r : List ℕ) (e : End) : Type 0 where
-  unread : (name : List ℕ) → Contains (m ∷ r ∷ []) name → IsUnread o name → e ≡ cannot_read name → CheckEnd o m r e
-  long : (name : List ℕ) → Contains (m ∷ r ∷ []) name → IsTooLong o name → e ≡ is_longer name → CheckEnd o m r e
-  judged : (j : Judged) → e ≡ judged_end m r j → CheckEnd o m r e
-
-first_of : (m r : List ℕ) → Contains (m ∷ r ∷ []) m
-first_of m r = (0, omega arith, refl)
-
-second_of : (m r : List ℕ) → Contains (m ∷ r ∷ []) r
-second_of m r = (1, omega arith, refl)
-
-refused_end : (o : Outside) (m r name : List ℕ) → Contains (m ∷ r ∷ []) name → (e : End) → RefusesFile o name e → CheckEnd o m r e
-refused_end o m r name has e (inl (cause, is)) = unread name has cause is
-refused_end o m r name has e (inr (cause, is)) = long name has cause is
-
-check_end : (o : Outside) (m r : List ℕ) (e : End) → checking o m r e → CheckEnd o m r e
-check_end o m r =
-    let P : End → Type 0 = CheckEnd o m r in
-    reading_each P o m _ (refused_end o m r m (first_of m r)) (λ _.
-    reading_each P o r _ (refused_end o m r r (second_of m r)) (λ _.
-    stage_each {A = Judged} P (λ _. Unit {0}) _ (λ j e is. judged j is)))
-
-judged_proper : (m r : List ℕ) (j : Judged) → IsProper (judged_end m r j)
-judged_proper m r (NotBuilt Model) = inr (record { high = omega arith; no_write_fault = λ e. absurd (omega arith); no_want_of_memory = λ e. absurd (omega arith); nothing = refl })
-judged_proper m r (NotBuilt Report) = inr (record { high = omega arith; no_write_fault = λ e. absurd (omega arith); no_want_of_memory = λ e. absurd (omega arith); nothing = refl })
-judged_proper m r Holds = inl (record { low = omega arith; silent = refl })
-judged_proper m r (Wrong spot) = inl (record { low = omega arith; silent = refl })
-
-along : (P : End → Type 0) (a b : End) → a ≡ b → P b → P a
-along P a b is h = subst P (sym is) h
-
-refusal_proper : (status : ℕ) (words : List ℕ) → 10 ≤ status → ¬ (status ≡ 15) → ¬ (status ≡ 16) → IsProper (refusal status words)
-refusal_proper status words high a b = inr (record { high = high; no_write_fault = a; no_want_of_memory = b; nothing = refl })
-
-check_proper : (o : Outside) (m r : List ℕ) (e : End) → CheckEnd o m r e → IsProper e
-check_proper o m r e (unread name _ _ is) = along IsProper e _ is (refusal_proper 11 (codes "cannot read " ++ name) (omega arith) (λ h. absurd (omega arith)) (λ h. absurd (omega arith)))
-check_proper o m r e (long name _ _ is) = along IsProper e _ is (refusal_proper 11 (name ++ codes " is longer than 1048576 bytes") (omega arith) (λ h. absurd (omega arith)) (λ h. absurd (omega arith)))
-check_proper o m r e (judged j is) = along IsProper e _ is (judged_proper m r j)
-
-pub stages_proper : (o : Outside) (c : Command) (e : End) → stages o c e → IsProper e
-stages_proper o Usage e is = along IsProper e _ is (refusal_proper 10 (codes "usage") (omega arith) (λ h. absurd (omega arith)) (λ h. absurd (omega arith)))
-stages_proper o (Check m r) e h = check_proper o m r e (check_end o m r e h)
-
--- which statuses the ends of a command have
-end_status : (m r : List ℕ) (j : Judged) → ((judged_end m r j).status ≡ 0) ⊎ ((judged_end m r j).status ≡ 6) ⊎ ((judged_end m r j).status ≡ 19)
-end_status m r (NotBuilt Model) = inr (inr refl)
-end_status m r (NotBuilt Report) = inr (inr refl)
-end_status m r Holds = inl refl
-end_status m r (Wrong spot) = inr (inl refl)
-
-not_ten : (m r : List ℕ) (j : Judged) → ¬ ((judged_end m r j).status ≡ 10)
-not_ten m r j is = of (end_status m r j)
+-- neither 10 nor 11
+not_reading : (e : End) → Kind e → (e.status ≡ 10) ⊎ (e.status ≡ 11) → ⊥
+not_reading e k is = of (statuses e k) is
   where
-    of : ((judged_end m r j).status ≡ 0) ⊎ ((judged_end m r j).status ≡ 6) ⊎ ((judged_end m r j).status ≡ 19) → ⊥
-    of (inl e) = omega arith
-    of (inr (inl e)) = omega arith
-    of (inr (inr e)) = omega arith
-
-not_eleven : (m r : List ℕ) (j : Judged) → ¬ ((judged_end m r j).status ≡ 11)
-not_eleven m r j is = of (end_status m r j)
-  where
-    of : ((judged_end m r j).status ≡ 0) ⊎ ((judged_end m r j).status ≡ 6) ⊎ ((judged_end m r j).status ≡ 19) → ⊥
-    of (inl e) = omega arith
-    of (inr (inl e)) = omega arith
-    of (inr (inr e)) = omega arith
+    of : (e.status ≡ 0) ⊎ (e.status ≡ 6) ⊎ (e.status ≡ 12) ⊎ (e.status ≡ 13) ⊎ (e.status ≡ 17) ⊎ (e.status ≡ 19) → (e.status ≡ 10) ⊎ (e.status ≡ 11) → ⊥
+    of (inl a) (inl b) = omega arith
+    of (inl a) (inr b) = omega arith
+    of (inr (inl a)) (inl b) = omega arith
+    of (inr (inl a)) (inr b) = omega arith
+    of (inr (inr (inl a))) (inl b) = omega arith
+    of (inr (inr (inl a))) (inr b) = omega arith
+    of (inr (inr (inr (inl a)))) (inl b) = omega arith
+    of (inr (inr (inr (inl a)))) (inr b) = omega arith
+    of (inr (inr (inr (inr (inl a))))) (inl b) = omega arith
+    of (inr (inr (inr (inr (inl a))))) (inr b) = omega arith
+    of (inr (inr (inr (inr (inr a))))) (inl b) = omega arith
+    of (inr (inr (inr (inr (inr a))))) (inr b) = omega arith
 
 check_not_ten : (o : Outside) (m r : List ℕ) (e : End) → CheckEnd o m r e → ¬ (e.status ≡ 10)
 check_not_ten o m r e (unread name _ _ is) ten = let eleven = status_is e _ is in omega arith
 check_not_ten o m r e (long name _ _ is) ten = let eleven = status_is e _ is in omega arith
-check_not_ten o m r e (judged j is) ten = not_ten m r j (sym (status_is e _ is) ∙ ten)
+check_not_ten o m r e (decided model report _ _ d) ten = not_reading e (kind r model report e d) (inl ten)
 
 -- the status of an answer, by what was meant
 pub data Outcome (stages : End → Type 0) (out err : Sunk) (s : ℕ) : Type 0 where
@@ -100,7 +50,7 @@ pub data Outcome (stages : End → Type 0) (out err : Sunk) (s : ℕ) : Type 0 w
   no_memory : s ≡ 16 → TakesAll out [] → Outcome stages out err s
   cut : (e : End) → s ≡ 15 → IsCutShort e out err → Outcome stages out err s
 
-outcome : (stages : End → Type 0) (out err : Sunk) (s : ℕ) → IsAnswer stages out err s → Outcome stages out err s
+pub outcome : (stages : End → Type 0) (out err : Sunk) (s : ℕ) → IsAnswer stages out err s → Outcome stages out err s
 outcome stages out err s a = of a.comes a.told
   where
     of : stages a.meant ⊎ (a.meant ≡ out_of_memory) → Tells a.meant out err s → Outcome stages out err s
@@ -138,7 +88,7 @@ module _ (o : Outside) (out err : Sunk) (s : ℕ) where
       by_end : (e : End) → s ≡ e.status → TakesAll err e.line → CheckEnd o m r e → IsReadFault o err (m ∷ r ∷ [])
       by_end e is line (unread name has cause end) = (name, has, inl (cause, subst (λ (e : End). TakesAll err e.line) end line))
       by_end e is line (long name has cause end) = (name, has, inr (cause, subst (λ (e : End). TakesAll err e.line) end line))
-      by_end e is line (judged j end) = absurd (not_eleven m r j (sym (status_is e _ end) ∙ sym is ∙ eleven))
+      by_end e is line (decided model report _ _ d) = absurd (not_reading e (kind r model report e d) (inr (sym is ∙ eleven)))
 
       of : Outcome (stages o (Check m r)) out err s → IsReadFault o err (m ∷ r ∷ [])
       of (whole e comes is _ line) = by_end e is line (check_end o m r e comes)
@@ -224,23 +174,27 @@ module _ (o : Outside) (out err : Sunk) (s : ℕ) where
       of (no_memory _ text) = text.appended
       of (cut e is _) = absurd (omega arith)
 
-  -- the ends of status 0 and 6
-  judged_holds : (m r : List ℕ) (j : Judged) → (judged_end m r j).status ≡ 0 → ((judged_end m r j).text ≡ codes "holds\n") × ((judged_end m r j).line ≡ [])
-  judged_holds m r (NotBuilt Model) is = absurd (omega arith)
-  judged_holds m r (NotBuilt Report) is = absurd (omega arith)
-  judged_holds m r Holds is = (refl, refl)
-  judged_holds m r (Wrong spot) is = absurd (omega arith)
+  -- what a check comes to whose status is not 11
+  kind_of : (m r : List ℕ) (e : End) → CheckEnd o m r e → ¬ (e.status ≡ 11) → Kind e
+  kind_of m r e (unread name _ _ is) no_eleven = absurd (no_eleven (status_is e _ is))
+  kind_of m r e (long name _ _ is) no_eleven = absurd (no_eleven (status_is e _ is))
+  kind_of m r e (decided model report _ _ d) no_eleven = kind r model report e d
 
-  judged_wrong : (m r : List ℕ) (j : Judged) → (judged_end m r j).status ≡ 6 → (spot : List ℕ) × ((judged_end m r j).text ≡ codes "wrong " ++ spot ++ codes "\n") × ((judged_end m r j).line ≡ [])
-  judged_wrong m r (NotBuilt Model) is = absurd (omega arith)
-  judged_wrong m r (NotBuilt Report) is = absurd (omega arith)
-  judged_wrong m r Holds is = absurd (omega arith)
-  judged_wrong m r (Wrong spot) is = (spot_words spot.what spot.number, refl, refl)
+  kind_holds : (e : End) → Kind e → e.status ≡ 0 → (e.text ≡ codes "holds\n") × (e.line ≡ [])
+  kind_holds e (zero is) none = (ap (λ (e : End). e.text) is, ap (λ (e : End). e.line) is)
+  kind_holds e (six words is _ _) none = absurd (omega arith)
+  kind_holds e (twelve r) none = let s = refusal_status 12 e r in absurd (omega arith)
+  kind_holds e (thirteen r) none = let s = refusal_status 13 e r in absurd (omega arith)
+  kind_holds e (seventeen r) none = let s = refusal_status 17 e r in absurd (omega arith)
+  kind_holds e (nineteen r) none = let s = refusal_status 19 e r in absurd (omega arith)
 
-  judged_of : (m r : List ℕ) (e : End) → CheckEnd o m r e → ¬ (e.status ≡ 11) → (j : Judged) × (e ≡ judged_end m r j)
-  judged_of m r e (unread name _ _ is) no_eleven = absurd (no_eleven (status_is e _ is))
-  judged_of m r e (long name _ _ is) no_eleven = absurd (no_eleven (status_is e _ is))
-  judged_of m r e (judged j is) no_eleven = (j, is)
+  kind_wrong : (e : End) → Kind e → e.status ≡ 6 → (spot : List ℕ) × (e.text ≡ codes "wrong " ++ spot ++ codes "\n") × (e.line ≡ [])
+  kind_wrong e (zero is) same = let s = status_is e _ is in absurd (omega arith)
+  kind_wrong e (six words is text line) same = (words, text, line)
+  kind_wrong e (twelve r) same = let s = refusal_status 12 e r in absurd (omega arith)
+  kind_wrong e (thirteen r) same = let s = refusal_status 13 e r in absurd (omega arith)
+  kind_wrong e (seventeen r) same = let s = refusal_status 17 e r in absurd (omega arith)
+  kind_wrong e (nineteen r) same = let s = refusal_status 19 e r in absurd (omega arith)
 
   pub gains_line : (c : Command) → IsAnswer (stages o c) out err s → Gains out err s
   gains_line c a = record { holds = holds c (outcome _ out err s a); wrong = wrong c (outcome _ out err s a); refused = refused (outcome _ out err s a) }
@@ -250,18 +204,18 @@ module _ (o : Outside) (out err : Sunk) (s : ℕ) where
       holds c (cut e is _) none = absurd (omega arith)
       holds Usage (whole e comes is _ _) none = let ten = status_is e _ comes in absurd (omega arith)
       holds (Check m r) (whole e comes is text line) none =
-          let j = judged_of m r e (check_end o m r e comes) (λ eleven. absurd (omega arith)) in
-          let h = judged_holds m r j.0 (sym (status_is e _ j.1) ∙ sym is ∙ none) in
-          (subst (TakesAll out) (ap (λ (e : End). e.text) j.1 ∙ h.0) text, subst (TakesAll err) (ap (λ (e : End). e.line) j.1 ∙ h.1) line)
+          let k = kind_of m r e (check_end o m r e comes) (λ eleven. absurd (omega arith)) in
+          let h = kind_holds e k (sym is ∙ none) in
+          (subst (TakesAll out) h.0 text, subst (TakesAll err) h.1 line)
 
       wrong : (c : Command) → Outcome (stages o c) out err s → s ≡ 6 → (spot : List ℕ) × TakesAll out (codes "wrong " ++ spot ++ codes "\n") × TakesAll err []
-      wrong c (no_memory is _) six = absurd (omega arith)
-      wrong c (cut e is _) six = absurd (omega arith)
-      wrong Usage (whole e comes is _ _) six = let ten = status_is e _ comes in absurd (omega arith)
-      wrong (Check m r) (whole e comes is text line) six =
-          let j = judged_of m r e (check_end o m r e comes) (λ eleven. absurd (omega arith)) in
-          let h = judged_wrong m r j.0 (sym (status_is e _ j.1) ∙ sym is ∙ six) in
-          (h.0, subst (TakesAll out) (ap (λ (e : End). e.text) j.1 ∙ h.1) text, subst (TakesAll err) (ap (λ (e : End). e.line) j.1 ∙ h.2) line)
+      wrong c (no_memory is _) same = absurd (omega arith)
+      wrong c (cut e is _) same = absurd (omega arith)
+      wrong Usage (whole e comes is _ _) same = let ten = status_is e _ comes in absurd (omega arith)
+      wrong (Check m r) (whole e comes is text line) same =
+          let k = kind_of m r e (check_end o m r e comes) (λ eleven. absurd (omega arith)) in
+          let h = kind_wrong e k (sym is ∙ same) in
+          (h.0, subst (TakesAll out) h.1 text, subst (TakesAll err) h.2 line)
 
       by_kind : (e : End) → s ≡ e.status → TakesAll out e.text → IsProper e → 10 ≤ s → TakesAll out []
       by_kind e is text (inl answered) high = let low = answered.low in absurd (omega arith)
@@ -275,18 +229,21 @@ module _ (o : Outside) (out err : Sunk) (s : ℕ) where
   pub status_line : (c : Command) → IsAnswer (stages o c) out err s → IsStatus s
   status_line c a = of c (outcome _ out err s a)
     where
-      of_judged : (m r : List ℕ) (j : Judged) → s ≡ (judged_end m r j).status → ((judged_end m r j).status ≡ 0) ⊎ ((judged_end m r j).status ≡ 6) ⊎ ((judged_end m r j).status ≡ 19) → IsStatus s
-      of_judged m r j is (inl e) = inl (is ∙ e)
-      of_judged m r j is (inr (inl e)) = inr (inl (is ∙ e))
-      of_judged m r j is (inr (inr e)) = inr (inr (inr (inr (inr (inr (is ∙ e))))))
+      of_kind : (e : End) → s ≡ e.status → (e.status ≡ 0) ⊎ (e.status ≡ 6) ⊎ (e.status ≡ 12) ⊎ (e.status ≡ 13) ⊎ (e.status ≡ 17) ⊎ (e.status ≡ 19) → IsStatus s
+      of_kind e is (inl a) = inl (is ∙ a)
+      of_kind e is (inr (inl a)) = inr (inl (is ∙ a))
+      of_kind e is (inr (inr (inl a))) = inr (inr (inr (inr (inl (is ∙ a)))))
+      of_kind e is (inr (inr (inr (inl a)))) = inr (inr (inr (inr (inr (inl (is ∙ a))))))
+      of_kind e is (inr (inr (inr (inr (inl a))))) = inr (inr (inr (inr (inr (inr (inr (inr (inl (is ∙ a)))))))))
+      of_kind e is (inr (inr (inr (inr (inr a))))) = inr (inr (inr (inr (inr (inr (inr (inr (inr (is ∙ a)))))))))
 
       of_end : (m r : List ℕ) (e : End) → s ≡ e.status → CheckEnd o m r e → IsStatus s
       of_end m r e is (unread name _ _ end) = inr (inr (inr (inl (is ∙ status_is e _ end))))
       of_end m r e is (long name _ _ end) = inr (inr (inr (inl (is ∙ status_is e _ end))))
-      of_end m r e is (judged j end) = of_judged m r j (is ∙ status_is e _ end) (end_status m r j)
+      of_end m r e is (decided model report _ _ d) = of_kind e is (statuses e (kind r model report e d))
 
       of : (c : Command) → Outcome (stages o c) out err s → IsStatus s
-      of c (no_memory is _) = inr (inr (inr (inr (inr (inl is)))))
-      of c (cut e is _) = inr (inr (inr (inr (inl is))))
+      of c (no_memory is _) = inr (inr (inr (inr (inr (inr (inr (inl is)))))))
+      of c (cut e is _) = inr (inr (inr (inr (inr (inr (inl is))))))
       of Usage (whole e comes is _ _) = inr (inr (inl (is ∙ status_is e _ comes)))
       of (Check m r) (whole e comes is _ _) = of_end m r e is (check_end o m r e comes)

@@ -1,7 +1,11 @@
 pub mod Course
 pub mod Ends
+pub mod Frames
 pub mod Judging
+pub mod Models
 pub mod Outside
+pub mod Places
+pub mod Reports
 pub mod Stages
 pub mod Stops
 pub mod Table

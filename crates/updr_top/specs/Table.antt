@@ -1,12 +1,21 @@
 -- The table of statuses: when each comes.
-use Rattle.std.specs.Prelude.{◌≡◌, ◌⊎◌, ◌<◌, ◌≤◌, ℕ, List, [], ◌∷◌, ◌++◌, Some, length, codes, ⊤}
+use Rattle.std.specs.Prelude.{◌≡◌, ◌⊎◌, ◌↔◌, ◌<◌, ◌≤◌, ℕ, List, [], ◌∷◌, ◌++◌, Some, length, codes, ⊤}
 use Rattle.std.specs.List.{Contains}
-use Rattle.pv_base.specs.Reading.{limit}
+use Rattle.fo_core.specs.declared.names.Names.{Names}
+use Rattle.fo_core.specs.declared.syntax.System.{System}
+use Rattle.fo_core.specs.Runs.{IsViolatingRun}
+use Rattle.pv_base.specs.Reading.{IsContent, limit}
 use Rattle.pv_base.specs.Counts.{Rose}
 use Rattle.pv_base.specs.Written.{Appends}
 use Rattle.updr_top.specs.Ends.{End, cannot_read, is_longer}
 use Rattle.updr_top.specs.Outside.{Outside, IsUnread, IsTooLong}
+use Rattle.up_cert.specs.Spots.{IsFirstSpot}
+use Rattle.up_cert.specs.declared.spot.Spot.{Spot}
+use Rattle.updr_top.specs.Judging.{not_built, wrong_at}
+use Rattle.updr_top.specs.Models.{MeansText, RefusesModel, IsNotRead, IsLeftOut, HasSortFault}
+use Rattle.updr_top.specs.Reports.{IsReport}
 use Rattle.updr_top.specs.Telling.{Sunk, TakesAll}
+use Rattle.updr_top.specs.declared.report.RunReport.{RunReport}
 use Rattle.updr_top.specs.Course.{Command}
 use Rattle.updr_top.specs.Course.Command.{Usage, Check}
 
@@ -59,4 +68,43 @@ pub record Gains (out err : Sunk) (status : ℕ) : Type 0 where
 
 -- every call ends in one of these
 abbrev pub IsStatus : ℕ → Type 0
-IsStatus s = (s ≡ 0) ⊎ (s ≡ 6) ⊎ (s ≡ 10) ⊎ (s ≡ 11) ⊎ (s ≡ 15) ⊎ (s ≡ 16) ⊎ (s ≡ 19)
+IsStatus s = (s ≡ 0) ⊎ (s ≡ 6) ⊎ (s ≡ 10) ⊎ (s ≡ 11) ⊎ (s ≡ 12) ⊎ (s ≡ 13) ⊎ (s ≡ 15) ⊎ (s ≡ 16) ⊎ (s ≡ 17) ⊎ (s ≡ 19)
+
+-- ---- a check whose files were read
+
+-- the first text means a system, and the second is a report of a run over it, as P says of both
+abbrev pub Shows : (System → RunReport → Type 0) → List ℕ → List ℕ → Type 0
+Shows P model report = (sys : System) × (names : Names) × (r : RunReport) × MeansText model sys names × IsReport sys.sig names report r × P sys r
+
+-- its run is a violating one, or it isn't
+abbrev pub ShowsRun : List ℕ → List ℕ → Type 0
+ShowsRun = Shows (λ sys r. IsViolatingRun sys r.world)
+
+abbrev pub ShowsNoRun : List ℕ → List ℕ → Type 0
+ShowsNoRun = Shows (λ sys r. ¬ IsViolatingRun sys r.world)
+
+-- the first text means a system, and the second is no report of a run over its signature
+abbrev pub ShowsNothing : List ℕ → List ℕ → Type 0
+ShowsNothing model report = (sys : System) × (names : Names) × MeansText model sys names × ((r : RunReport) → IsReport sys.sig names report r → ⊥)
+
+-- The status is the one that the texts of the model and of the report define, and is told. The report's file has this
+-- name.
+pub record Says (name model report : List ℕ) (out err : Sunk) (status : ℕ) : Type 0 where
+  pub not_read : (status ≡ 12) ↔ IsNotRead model
+  pub left_out : (status ≡ 17) ↔ IsLeftOut model
+  pub sorts : (status ≡ 13) ↔ HasSortFault model
+  pub no_report : (status ≡ 19) ↔ ShowsNothing model report
+  pub holds : (status ≡ 0) ↔ ShowsRun model report
+  pub wrong : (status ≡ 6) ↔ ShowsNoRun model report
+  -- the line names the first fault of the model and its place; or the report
+  pub model_line : (status ≡ 12) ⊎ (status ≡ 13) ⊎ (status ≡ 17) → (end : End) × RefusesModel model end × TakesAll err end.line
+  pub report_line : status ≡ 19 → TakesAll err (not_built name).line
+  -- the first spot is printed
+  pub spot : status ≡ 6 → (spot : Spot) × Shows (λ sys r. IsFirstSpot sys r.world spot) model report × TakesAll out (wrong_at spot).text
+
+-- What a check comes to: a file can't be read, a put failed, memory was wanting; or both files were read, and their
+-- contents decide.
+abbrev pub IsDecided : Outside → List ℕ → List ℕ → Sunk → Sunk → ℕ → Type 0
+IsDecided o model report out err status =
+    (status ≡ 11) ⊎ IsInPlace status
+    ⊎ ((model_bytes : List ℕ) × (report_bytes : List ℕ) × IsContent (o.contents model) model_bytes × IsContent (o.contents report) report_bytes × Says report model_bytes report_bytes out err status)

@@ -1,30 +1,30 @@
-ghost use Rattle.std.specs.Prelude.{◌≡◌, ◌++◌, map, string_bytes, codes, IfOk};
+ghost use Rattle.std.specs.Prelude.{◌≡◌, ℕ, List, map, string_bytes};
 ghost use Rattle.updr_top.specs.Ends.{usage};
 ghost use Rattle.updr_top.specs.Outside.{outside};
 ghost use Rattle.updr_top.specs.Stages.{ends};
-ghost use Rattle.updr_top.specs.Judging.{judged_end, spot_words};
 ghost use Rattle.updr_top.specs.Course.{command_of, stages, checking};
-ghost use Rattle.updr_top.specs.Course.Command.{Usage};
-ghost use Rattle.updr_top.specs.Table.{ComesExactly, IsReadFault, LongIsRefused, IsWriteFault, LeavesOut, Gains, IsStatus, files_of};
+ghost use Rattle.updr_top.specs.Course.Command.{Usage, Check};
+ghost use Rattle.updr_top.specs.Table.{ComesExactly, IsReadFault, LongIsRefused, IsWriteFault, LeavesOut, Gains, IsStatus, IsDecided, files_of};
 ghost use Rattle.updr_top.specs.Stops.{ComesBy};
 ghost use Rattle.updr_top.specs.Telling.{sunk, IsAnswer};
 
-use crate::judging::{Judged, Which, judge};
+use crate::judging::{judge, read_run};
+use crate::model::read_model;
 use crate::reading::{Stop, read_file};
 use crate::told::{Ending, Told, put_out_of_memory};
 use pv_base::{Files, Sink};
-use std::alloc::{AllocError, Global};
-use up_cert::{Spot, What};
+use std::alloc::Global;
 
 /// Serves the words of a command line, those behind the program's name: `check MODEL REPORT` reads
 /// a model and a report of a violating run, and prints whether the run really is one.
 ///
 /// The status is 0 with `holds` on `out`; 6 with `wrong` and the first spot that fails; 10 where
-/// the words are no command; 11 where a file can't be read or is too long; 15 where a put failed;
-/// 16 where memory was wanting; 19 where a file isn't of the form that is read today. Each from 10
-/// on puts its line on `err` and nothing on `out`, but for a prefix of the text with 15. It waits
-/// for nobody.
-#[tactic(auto, using(crate::proofs::Table::usage_line, crate::proofs::Table::read_line, crate::proofs::Table::long_line, crate::proofs::Table::write_line, crate::proofs::Table::memory_line, crate::proofs::Table::gains_line, crate::proofs::Table::status_line))]
+/// the words are no command; 11 where a file can't be read or is too long; 12 where the model has no
+/// tokens or no tree, 17 where it has none since a part of the language is left out, and 13 where it
+/// means no system, each with the place; 15 where a put failed; 16 where memory was wanting; 19 where
+/// the report isn't one of a violating run. Each from 10 on puts its line on `err` and nothing on
+/// `out`, but for a prefix of the text with 15. It waits for nobody.
+#[tactic(auto, using(crate::proofs::Table::usage_line, crate::proofs::Table::read_line, crate::proofs::Table::long_line, crate::proofs::Table::write_line, crate::proofs::Table::memory_line, crate::proofs::Table::gains_line, crate::proofs::Table::status_line, crate::proofs::Deciding::check_line))]
 pub fn run_plain<F: Files, O: Sink, E: Sink>(
     alloc: Global,
     words: Vec<String>,
@@ -41,6 +41,7 @@ pub fn run_plain<F: Files, O: Sink, E: Sink>(
     ensures read_fault { result.status ≡ 11 → IsReadFault (outside F.contents F.faults F.refused files.old files.new) (sunk E.written E.faults err.old err.new) (files_of (command_of (map string_bytes words.items))) }
     ensures too_long { LongIsRefused (outside F.contents F.faults F.refused files.old files.new) (sunk E.written E.faults err.old err.new) (files_of (command_of (map string_bytes words.items))) result.status }
     ensures write_fault { IsWriteFault (sunk O.written O.faults out.old out.new) (sunk E.written E.faults err.old err.new) result.status }
+    ensures check { (model report : List ℕ) → command_of (map string_bytes words.items) ≡ Check model report → IsDecided (outside F.contents F.faults F.refused files.old files.new) model report (sunk O.written O.faults out.old out.new) (sunk E.written E.faults err.old err.new) result.status }
     ensures memory { LeavesOut (sunk O.written O.faults out.old out.new) result.status }
     ensures gains { Gains (sunk O.written O.faults out.old out.new) (sunk E.written E.faults err.old err.new) result.status }
 {
@@ -91,31 +92,7 @@ fn check<F: Files>(alloc: Global, model: &str, report: &str, files: &mut F) -> R
 {
     let model_bytes = read_file(alloc, files, model)?;
     let report_bytes = read_file(alloc, files, report)?;
-    let judged = judge(alloc, &model_bytes, &report_bytes)?;
-    Ok(judged_end(alloc, model, report, judged)?)
-}
-
-fn judged_end(alloc: Global, model: &str, report: &str, judged: Judged) -> Result<Told, AllocError>
-    ensures { IfOk result (λ t. t ≡ judged_end model.now report.now judged) }
-{
-    match judged {
-        Judged::NotBuilt(Which::Model) => Told::refusal(alloc, 19, "not built yet: ", model, ""),
-        Judged::NotBuilt(Which::Report) => Told::refusal(alloc, 19, "not built yet: ", report, ""),
-        Judged::Holds => Ok(Told::printing(alloc, 0, b"holds\n".to_vec(alloc)?)),
-        Judged::Wrong(spot) => Ok(Told::printing(alloc, 6, wrong_line(alloc, spot)?)),
-    }
-}
-
-/// The line that tells which spot fails.
-fn wrong_line(alloc: Global, spot: Spot) -> Result<Vec<u8>, AllocError>
-    ensures { IfOk result (λ line. line.items ≡ codes "wrong " ++ spot_words spot.what spot.number ++ codes "\n") }
-{
-    let number = spot.number;
-    let line = match spot.what {
-        What::State => format!(in alloc; "wrong state {number}\n")?,
-        What::Init => String::from_str(alloc, "wrong init\n")?,
-        What::Step => format!(in alloc; "wrong step {number}\n")?,
-        What::Safety => String::from_str(alloc, "wrong safety\n")?,
-    };
-    Ok(line.into_bytes())
+    let meant = read_model(alloc, &model_bytes)?;
+    let run = read_run(alloc, &meant.sys, &meant.names, report, &report_bytes)?;
+    Ok(judge(alloc, &meant.sys, &run.world)?)
 }

@@ -1,6 +1,7 @@
 use crate::run_plain;
 use pv_base::{GoodFiles, GoodSink, MemFiles, MemSink};
 use std::alloc::{AllocError, Global};
+use std::process::Abort;
 use std::test::Fail;
 
 const MODEL: &[u8] = b"sort node
@@ -70,6 +71,53 @@ numbers 0 0 0
 done
 ";
 
+const LEADERS: &[u8] = b"sort node
+sort id
+immutable function idn(node): id
+mutable relation lead(id)
+init !lead(I)
+transition go(n: node)
+  modifies lead
+  new(lead(I)) <-> lead(I) | I = idn(n)
+safety lead(I) & lead(J) -> I = J
+";
+
+const LEADERS_RUN: &[u8] = b"report 1
+verdict unsafe 2
+world 3
+sort node 2
+sort id 2
+fixed
+idn 0 1
+copy 0
+lead 0 0
+copy 1
+lead 1 0
+copy 2
+lead 1 1
+end
+numbers 0 0 0
+done
+";
+
+const ONE_IDENTITY: &[u8] = b"report 1
+verdict unsafe 2
+world 3
+sort node 2
+sort id 2
+fixed
+idn 0 0
+copy 0
+lead 0 0
+copy 1
+lead 1 0
+copy 2
+lead 1 1
+end
+numbers 0 0 0
+done
+";
+
 fn words_of(alloc: Global, words: &[&str]) -> Result<Vec<String>, AllocError> {
     let mut all = Vec::new(alloc);
     for word in words {
@@ -118,15 +166,65 @@ fn runs_are_judged(rt: HostRuntime) -> Result<(), Fail> {
 }
 
 #[test]
-fn other_forms_are_refused(rt: HostRuntime) -> Result<(), Fail> {
+fn runs_with_functions_are_judged(rt: HostRuntime) -> Result<(), Fail> {
     let alloc = rt.alloc();
-    let (status, out, err) = checked(alloc, b"sort node\nsort id\n", RUN)?;
-    assert_eq!(rt; status, 19);
+    let (status, out, _) = checked(alloc, LEADERS, LEADERS_RUN)?;
+    assert_eq!(rt; status, 0);
+    assert_eq!(rt; out.bytes(), b"holds\n".as_slice());
+    let (status, out, _) = checked(alloc, LEADERS, ONE_IDENTITY)?;
+    assert_eq!(rt; status, 6);
+    assert_eq!(rt; out.bytes(), b"wrong step 1\n".as_slice());
+    Ok(())
+}
+
+/// Refuses a model with this status and this line.
+fn refuses(
+    rt: &impl Abort,
+    alloc: Global,
+    model: &[u8],
+    status: u8,
+    line: &[u8],
+) -> Result<(), AllocError> {
+    let (answered, out, err) = checked(alloc, model, RUN)?;
+    assert_eq!(rt; answered, status);
+    assert_eq!(rt; err.bytes(), line);
     assert_eq!(rt; out.bytes(), b"".as_slice());
-    assert_eq!(rt; err.bytes(), b"updr: not built yet: A\n".as_slice());
-    let (status, _, err) = checked(alloc, MODEL, b"report 1\nverdict unsafe 2\n")?;
+    Ok(())
+}
+
+#[test]
+fn models_that_are_not_read(rt: HostRuntime) -> Result<(), Fail> {
+    let alloc = rt.alloc();
+    refuses(&rt, alloc, b"# \xff\n", 12, b"updr: 1:3: not UTF-8\n")?;
+    refuses(&rt, alloc, b"\tinit\x01", 12, b"updr: 1:6: bad character\n")?;
+    refuses(&rt, alloc, b"transition t(", 12, b"updr: 1:14: syntax\n")?;
+    let twice = b"init\n a <-> b <-> c";
+    refuses(&rt, alloc, twice, 12, b"updr: 2:10: syntax\n")?;
+    let theorem = b"theorem true";
+    refuses(&rt, alloc, theorem, 17, b"updr: 1:1: unsupported theorem\n")?;
+    Ok(())
+}
+
+#[test]
+fn models_that_mean_no_system(rt: HostRuntime) -> Result<(), Fail> {
+    let alloc = rt.alloc();
+    refuses(&rt, alloc, b"init p", 13, b"updr: 1:6: unknown name\n")?;
+    let outside = b"mutable relation p\naxiom new(p)";
+    refuses(&rt, alloc, outside, 13, b"updr: 2:7: new outside a step\n")?;
+    let twice = b"mutable relation p\ntransition t() modifies p new(new(p))";
+    refuses(&rt, alloc, twice, 13, b"updr: 2:31: new inside new\n")?;
+    let immutable = b"immutable relation q\ntransition t() modifies q true";
+    refuses(&rt, alloc, immutable, 13, b"updr: 2:25: not mutable\n")?;
+    Ok(())
+}
+
+#[test]
+fn reports_of_other_forms(rt: HostRuntime) -> Result<(), Fail> {
+    let alloc = rt.alloc();
+    let (status, out, err) = checked(alloc, MODEL, b"report 1\nverdict unsafe 2\n")?;
     assert_eq!(rt; status, 19);
     assert_eq!(rt; err.bytes(), b"updr: not built yet: R\n".as_slice());
+    assert_eq!(rt; out.bytes(), b"".as_slice());
     Ok(())
 }
 
@@ -191,7 +289,7 @@ fn cut_files_are_answered(rt: HostRuntime) -> Result<(), Fail> {
     let alloc = rt.alloc();
     for len in 0..MODEL.len() {
         let (status, _, _) = checked(alloc, &MODEL[..len], RUN)?;
-        assert!(rt; status == 0 || status == 6 || status == 19);
+        assert!(rt; matches!(status, 0 | 6 | 12 | 13 | 17 | 19));
     }
     for len in 0..RUN.len() {
         let (status, out, _) = checked(alloc, MODEL, &RUN[..len])?;

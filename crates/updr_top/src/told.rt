@@ -1,7 +1,9 @@
-ghost use Rattle.std.specs.Prelude.{◌≡◌, ◌++◌, [], codes, IfOk, OnOk, OnErr, length, ◌<◌, ◌≤◌};
+ghost use Rattle.std.specs.Prelude.{◌≡◌, ◌++◌, [], codes, IfOk, OnOk, OnErr, length, ◌<◌, ◌≤◌, ◌^◌};
 ghost use Rattle.updr_top.specs.Ends.{End, refusal, printing, out_of_memory};
+ghost use Rattle.updr_top.specs.Places.{refusal_at};
 ghost use Rattle.updr_top.specs.Telling.{sunk, Tells, TakesAll, TakesPart};
 
+use crate::place::Place;
 use pv_base::{Failed, Sink};
 use std::alloc::{AllocError, Global};
 use std::marker::Model;
@@ -11,16 +13,15 @@ use std::marker::Model;
 pub struct Told {
     status: u8,
     text: Vec<u8>,
-    line: String,
+    line: Vec<u8>,
 }
 
 impl Model for Told {
-    ghost use Rattle.std.specs.Prelude.{string_bytes};
     ghost use Rattle.updr_top.specs.Ends.{End};
 
     ghost Value = { End };
 
-    ghost view = { λ t. record { status = t.status; text = t.text.items; line = string_bytes t.line } };
+    ghost view = { λ t. record { status = t.status; text = t.text.items; line = t.line.items } };
 }
 
 impl Told {
@@ -37,7 +38,29 @@ impl Told {
         Ok(Told {
             status,
             text: Vec::new(alloc),
-            line: format!(in alloc; "updr: {before}{name}{after}\n")?,
+            line: format!(in alloc; "updr: {before}{name}{after}\n")?.into_bytes(),
+        })
+    }
+
+    /// A refusal that names a place of a text.
+    pub fn refusal_at(
+        alloc: Global,
+        status: u8,
+        bytes: &[u8],
+        at: u32,
+        words: &[u8],
+    ) -> Result<Told, AllocError>
+        requires { length bytes.now < 2 ^ 32 }
+        ensures { IfOk result (λ t. t ≡ refusal_at status bytes.now at words.now) }
+    {
+        let Place { line, column } = Place::of(bytes, at);
+        let mut whole = format!(in alloc; "updr: {line}:{column}: ")?.into_bytes();
+        whole.extend_from_slice(words)?;
+        whole.push(b'\n')?;
+        Ok(Told {
+            status,
+            text: Vec::new(alloc),
+            line: whole,
         })
     }
 
@@ -48,7 +71,7 @@ impl Told {
         Told {
             status,
             text,
-            line: String::new(alloc),
+            line: Vec::new(alloc),
         }
     }
 
@@ -56,7 +79,7 @@ impl Told {
     pub fn put<O: Sink, E: Sink>(self, out: &mut O, err: &mut E) -> Ending
         ensures { Tells self (sunk O.written O.faults out.old out.new) (sunk E.written E.faults err.old err.new) result.status }
     {
-        let status = put_all(self.status, &self.text, self.line.as_bytes(), out, err);
+        let status = put_all(self.status, &self.text, &self.line, out, err);
         Ending { status }
     }
 }
