@@ -56,7 +56,7 @@ no_tree_here bytes ts parse.Memory e first only told = absurd told
 -- ---- systems
 
 abbrev MeansOnly : List ℕ → Model → Result Elaborated SortFault → Type 0
-MeansOnly bytes m r = (sys : System) (names : Names) → MeansSystem bytes m sys names → elaborating.OkUnlessMemory r sys names
+MeansOnly bytes m r = (sys : System) (names : Names) → MeansSystem bytes m sys names → elaborating.IsUnlessMemory r sys names
 
 pub the_meaning : (bytes : List ℕ) (m : Model) (x : Elaborated) → MeansSystem bytes m x.sys x.names → MeansOnly bytes m (Ok x) → TheMeaning bytes m x.sys x.names
 the_meaning bytes m x means only = record { means = means; only = λ s n h. let k = only s n h in (sym k.0, sym k.1) }
