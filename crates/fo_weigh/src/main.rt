@@ -9,7 +9,7 @@ ghost use Rattle.fo_core.specs.SortGraph.{FunctionEdge, Rises};
 ghost use Rattle.fo_norm.specs.Extended.{extended};
 ghost use Rattle.fo_norm.specs.Forms.{IsForm};
 ghost use Rattle.fo_terms.specs.Counts.{term_counts};
-ghost use Rattle.fo_terms.specs.FormWeight.{form_weight};
+ghost use Rattle.fo_terms.specs.FormWeight.{form_weight, AreFew};
 
 mod forms;
 
@@ -41,14 +41,15 @@ fn weight_of(alloc: Global, sig: &Sig, form: &SkolemForm, order: &Order) -> anyh
     requires sig { IsSig sig.now }
     requires form { IsForm sig.now form.now }
     requires rises { Rises (FunctionEdge (extended sig.now form.now.skolems)) sig.now.sorts order.now.numbers }
-    ensures { IfOk result (λ w. w ≤ 4000000 → form_weight sig.now form.now (term_counts (extended sig.now form.now.skolems) form.now.copies) ≤ 4000000) }
+    ensures few { IfOk result (λ w. w ≤ 4000000 → AreFew (term_counts (extended sig.now form.now.skolems) form.now.copies)) }
+    ensures light { IfOk result (λ w. w ≤ 4000000 → form_weight sig.now form.now (term_counts (extended sig.now form.now.skolems) form.now.copies) ≤ 4000000) }
 {
     let counts = counts(alloc, sig, form, order)?;
     Ok(weight(sig, form, counts.as_slice()))
 }
 
 /// How large the clauses of a form are.
-fn size(alloc: Global, sig: &Sig, form: &SkolemForm) -> anyhow::Result<Size>
+fn measured(alloc: Global, sig: &Sig, form: &SkolemForm) -> anyhow::Result<Size>
     requires sig { IsSig sig.now }
     requires form { IsForm sig.now form.now }
 {
@@ -74,7 +75,7 @@ fn weigh(alloc: Global, constants: usize, claims: usize) -> anyhow::Result<Size>
         claims: system.axioms,
     };
     let form = normal(alloc, &system.sig, &query)?;
-    size(alloc, &system.sig, &form)
+    measured(alloc, &system.sig, &form)
 }
 
 /// Reads two numbers.
