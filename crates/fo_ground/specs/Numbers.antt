@@ -1,5 +1,5 @@
 -- The atoms over a universe in the order of their variables, and the layout that this gives.
-use Rattle.std.specs.Prelude.{ℕ, ◌+◌, ◌-◌, ◌*◌, ◌/◌, ◌%◌, cond, List, [], ◌∷◌, ◌++◌, map, take, length, slice_index}
+use Rattle.std.specs.Prelude.{ℕ, ◌+◌, ◌-◌, ◌*◌, ◌/◌, ◌%◌, cond, List, [], ◌++◌, map, take, length, slice_index}
 use Rattle.std.specs.List.{range_with_len, flat_map}
 use Rattle.fo_core.specs.declared.syntax.Sig.{Sig}
 use Rattle.fo_core.specs.Tables.{symbol_at, tuples}

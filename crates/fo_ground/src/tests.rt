@@ -1,11 +1,11 @@
 ghost use Rattle.fo_core.specs.Sorted.{IsSig};
 ghost use Rattle.fo_norm.specs.Forms.{IsForm};
 
-use crate::{ground, world_of};
+use crate::{Atom, Grounded, ground, world_of};
 use fo_core::{Boxed, Formula, Order, Query, Seq, Sig, Symbol, System, Term, World};
 use fo_norm::{SkolemForm, normal};
 use fo_terms::{counts, rises, universe, weight};
-use prop_core::Answer;
+use prop_core::{Answer, Cnf};
 use prop_plain::solve;
 use std::alloc::{AllocError, Global};
 use std::process::Abort;
@@ -131,5 +131,22 @@ fn one_held_and_one_not_are_two_elements(rt: HostRuntime) -> Result<(), Fail> {
     let no = some(alloc, not(alloc, held(alloc, 0)?)?)?;
     let world = world(&rt, alloc, both(alloc, yes, no)?)?.ok_or("no world")?;
     assert!(rt; world.sizes.as_slice() == [2].as_slice());
+    Ok(())
+}
+
+#[test]
+fn grounded_forms_are_copied(rt: HostRuntime) -> Result<(), Fail> {
+    let alloc = rt.alloc();
+    let mut atoms = Seq::new(alloc);
+    atoms.push(Atom::Same(0, 0))?;
+    atoms.push(Atom::Fact(0, 0, Seq::from_vec([0].to_vec(alloc)?)))?;
+    atoms.push(Atom::Helper)?;
+    let cnf = Cnf {
+        vars: 3,
+        clauses: Seq::new(alloc),
+    };
+    let copy = Grounded { cnf, atoms }.copy(alloc)?;
+    assert_eq!(rt; copy.cnf.vars, 3);
+    assert_eq!(rt; copy.atoms.len(), 3);
     Ok(())
 }
