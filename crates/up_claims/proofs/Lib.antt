@@ -1,0 +1,9 @@
+pub mod Binders
+pub mod CopyLemmas
+pub mod InductiveLemmas
+pub mod Kept
+pub mod Lists
+pub mod Places
+pub mod TransitionLemmas
+pub mod UnrollLemmas
+pub mod VerifyLemmas

@@ -1,0 +1,4 @@
+pub mod Breaking
+pub mod Claims
+pub mod Inductive
+pub mod Transitions
