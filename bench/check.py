@@ -39,9 +39,9 @@ def equal(bodies):
     return model(1).replace("init", "\n".join(lines) + "\ninit", 1)
 
 
-def report(size, steps):
+def report(size, steps, fixed=()):
     """Node after node is grabbed; the safety fails at once."""
-    lines = ["report 1", f"verdict unsafe {steps}", f"world {steps + 1}", f"sort node {size}", "fixed"]
+    lines = ["report 1", f"verdict unsafe {steps}", f"world {steps + 1}", f"sort node {size}", "fixed", *fixed]
     for copy in range(steps + 1):
         values = " ".join("1" if k < copy else "0" for k in range(size))
         lines += [f"copy {copy}", f"held {values}"]
@@ -75,7 +75,7 @@ def main():
     for members in (8000, 16000, 32000):
         run(f"1 init of {members} members", wide(members), report(2, 1))
     for bodies in (200, 400, 800):
-        run(f"{bodies} chains of 51 equalities", equal(bodies), report(1, 0))
+        run(f"{bodies} chains of 51 equalities", equal(bodies), report(1, 0, ["one 0"]))
     for steps in (16, 32, 64):
         run(f"{steps} steps, 500 nodes", model(1), report(500, steps))
     for size in (65536, 131072, 262144, 523000):
