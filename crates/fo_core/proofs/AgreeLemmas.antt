@@ -1,6 +1,6 @@
 -- A formula is true in both of two worlds that agree on its copies, or in neither.
-use Rattle.std.proofs.Common.{◌≡◌, ℕ, zero, suc, Bool, true, false, cond, ◌↔◌, ◌+◌, ◌-◌, ◌<◌, ◌≤◌, ◌⊎◌, inl, inr, List, [], ◌∷◌, ◌++◌, length, get_or, map, refl, sym, ap, subst, ◌∙◌, arith, add-zero}
-use Rattle.std.specs.List.{AllZip, Any}
+use Rattle.std.proofs.Common.{◌≡◌, ℕ, zero, suc, Bool, true, false, cond, ◌↔◌, ◌+◌, ◌-◌, ◌<◌, ◌⊎◌, inl, inr, List, [], ◌∷◌, ◌++◌, length, get_or, map, refl, sym, ap, subst, ◌∙◌, arith, add-zero}
+use Rattle.std.specs.List.{AllZip}
 use Rattle.std.specs.Prelude.{slice_index}
 use Rattle.fo_core.specs.declared.syntax.Sig.{Sig}
 use Rattle.fo_core.specs.declared.syntax.System.{System}
@@ -11,7 +11,7 @@ use Rattle.fo_core.specs.declared.world.Table.{Table}
 use Rattle.fo_core.specs.Tables.{no_table, symbol_at, rank, table_of, place, arg_sizes, entry}
 use Rattle.fo_core.specs.Truth.{value, values, Truth, EachTrue, SomeTrue}
 use Rattle.fo_core.specs.Sorted.{IsSymbol, IsTerm, AreTerms, IsFormula, AreFormulas, IsSystem}
-use Rattle.fo_core.specs.Runs.{IsSafe, Reach, Violates, IsViolatingRun, alone}
+use Rattle.fo_core.specs.Runs.{IsSafe, Reach, Violates, alone}
 use Rattle.fo_core.specs.Agreeing.{Agree}
 
 module _ (sig : Sig) (n : ℕ) (v : World) (c : ℕ) (w : World) (d : ℕ) (same : Agree n v c w d) where

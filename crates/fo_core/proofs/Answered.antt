@@ -1,7 +1,7 @@
 -- What an answer of true or false says of a fact.
 use Rattle.std.proofs.Common.{◌≡◌, ℕ, true, false, Bool, true≢false, ◌↔◌, ◌<◌, ◌≤◌, List, length, get_or, refl, sym, subst, ◌∙◌, arith}
 use Rattle.std.specs.Prelude.{IsTrue}
-use Rattle.std.specs.List.{All, Any}
+use Rattle.std.specs.List.{All}
 
 pub false_from : {P : Type 0} (b : Bool) → b ≡ false → (IsTrue b ↔ P) → ¬ P
 false_from b is h p = true≢false (sym (h.1 p) ∙ is)

@@ -4,7 +4,7 @@ use Rattle.std.specs.List.{All, AllZip}
 use Rattle.std.specs.Prelude.{slice_index}
 use Rattle.std.proofs.Math.ListN.{drop_of_length-le}
 use Rattle.std.proofs.lemmas.Bool.{cases_lt}
-use Rattle.std.proofs.lemmas.List.{get_or_past, get_or-map, length-map}
+use Rattle.std.proofs.lemmas.List.{get_or_past, get_or-map}
 use Rattle.std.proofs.lemmas.List.Elements.{All-nil, All-cons, All-drop}
 use Rattle.fo_core.specs.Tables.{tuples, place}
 use Rattle.fo_core.specs.Runs.{AreElements}

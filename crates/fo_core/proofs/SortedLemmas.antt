@@ -1,8 +1,7 @@
 -- What the tests of well-sortedness and depth know of a formula's parts.
 use Rattle.std.proofs.Common.{◌≡◌, ℕ, true, false, Bool, ◌↔◌, ◌+◌, ◌<◌, ◌≤◌, List, [], ◌∷◌, ◌++◌, length, get_or, sym, subst, arith}
-use Rattle.std.specs.Prelude.{IsTrue, nat_lt}
-use Rattle.std.specs.List.{All, AllZip}
-use Rattle.std.proofs.lemmas.List.{get_or_default}
+use Rattle.std.specs.Prelude.{IsTrue}
+use Rattle.std.specs.List.{AllZip}
 use Rattle.fo_core.specs.declared.syntax.Sig.{Sig}
 use Rattle.fo_core.specs.declared.syntax.Term.{Term}
 use Rattle.fo_core.specs.declared.syntax.Term.TheVariants.{App}
@@ -10,7 +9,7 @@ use Rattle.fo_core.specs.declared.syntax.Formula.{Formula}
 use Rattle.fo_core.specs.declared.syntax.Formula.TheVariants as F
 use Rattle.fo_core.specs.Tables.{symbol_at}
 use Rattle.fo_core.specs.Sorted.{IsSymbol, IsTerm, IsFormula, binders}
-use Rattle.fo_core.proofs.Answered.{never, always, answered, fails_at, all_seen, false_from}
+use Rattle.fo_core.proofs.Answered.{never, always, answered, fails_at, all_seen}
 use Rattle.fo_core.proofs.Rows.{sorted-Not, sorted-And, sorted-Or, sorted-All, sorted-Ex, And-sorted, Or-sorted, sorted-App, App-sorted, binders-Not, binders-And, binders-Or, binders-All, binders-Ex, And-binders, Or-binders}
 use Rattle.fo_core.proofs.Zips.{AllZip-length, AllZip-at, AllZip-each}
 

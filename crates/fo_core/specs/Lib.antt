@@ -1,12 +1,15 @@
 pub mod Agreeing
+pub mod Finds
 pub mod Named
 pub mod Queries
+pub mod QueryWeight
 pub mod Runs
 pub mod Shift
 pub mod Skolems
 pub mod SortGraph
 pub mod Sorted
 pub mod Tables
+pub mod TermCounts
 pub mod Truth
 pub mod Weights
 pub mod formers

@@ -1,5 +1,6 @@
--- The Skolem symbols of a formula.
+-- The Skolem symbols of a formula, and signatures with more symbols.
 use Rattle.std.specs.Prelude.{ℕ, Bool, true, false, not, List, [], ◌∷◌, ◌++◌}
+use Rattle.fo_core.specs.declared.syntax.Sig.{Sig}
 use Rattle.fo_core.specs.declared.syntax.Symbol.{Symbol}
 use Rattle.fo_core.specs.declared.syntax.Formula.{Formula, Not', And', Or', All', Ex', Row_of-Formula, end_of-Formula, more_of-Formula}
 
@@ -29,3 +30,7 @@ abbrev mutual
 abbrev pub skolem_symbols_list : Bool → List Formula → List ℕ → List Symbol
 skolem_symbols_list b [] us = []
 skolem_symbols_list b (f ∷ fs) us = skolem_symbols b f us ++ skolem_symbols_list b fs us
+
+-- the signature with more symbols behind its own
+abbrev pub extended : Sig → List Symbol → Sig
+extended sig more = record { sorts = sig.sorts; symbols = sig.symbols ++ more }

@@ -5,6 +5,7 @@
 mod boxed;
 mod copy;
 mod depth;
+mod finder;
 mod fits;
 mod laws;
 mod names;
@@ -19,6 +20,7 @@ mod value;
 mod world;
 
 pub use boxed::Boxed;
+pub use finder::{Finder, Finders, Found};
 pub use laws::{
     safe_where_no_reachable_state_violates, shifted_moves_copies, terms_read_bound_values,
     truth_is_decided, truth_reads_named_copies,

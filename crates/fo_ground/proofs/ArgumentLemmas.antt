@@ -6,7 +6,7 @@ use Rattle.std.proofs.Math.Nat.{mod-lt, div-lt_iff_lt-mul, mul-div_cancel_left}
 use Rattle.fo_core.specs.declared.syntax.Sig.{Sig}
 use Rattle.fo_core.specs.Weights.{power}
 use Rattle.fo_terms.specs.declared.terms.Universe.{Universe}
-use Rattle.fo_terms.specs.Counts.{term_counts}
+use Rattle.fo_core.specs.TermCounts.{term_counts}
 use Rattle.fo_ground.specs.Numbers.{count_of, first_at}
 use Rattle.fo_ground.proofs.ClassTables.{positive_of}
 use Rattle.fo_terms.specs.Blocks.{raised, tuple_at}

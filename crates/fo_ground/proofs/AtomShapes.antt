@@ -10,7 +10,7 @@ use Rattle.fo_core.specs.Tables.{no_symbol, symbol_at}
 use Rattle.fo_core.specs.Sorted.{HasSorts, IsSig}
 use Rattle.fo_terms.specs.declared.terms.Universe.{Universe}
 use Rattle.fo_terms.specs.Arranged.{IsArranged}
-use Rattle.fo_terms.specs.Counts.{copies_of}
+use Rattle.fo_core.specs.TermCounts.{copies_of}
 use Rattle.fo_terms.specs.Universe.{AreOf}
 use Rattle.fo_ground.specs.declared.grounded.Atom.TheVariants.{Same}
 use Rattle.fo_ground.specs.Grounds.{IsShaped}

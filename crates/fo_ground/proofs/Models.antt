@@ -15,7 +15,8 @@ use Rattle.fo_core.specs.Truth.{Truth, reading}
 use Rattle.fo_core.specs.Sorted.{IsSymbol, HasSorts, IsSig}
 use Rattle.fo_core.proofs.ValueLemmas.{entry-lt}
 use Rattle.fo_norm.specs.declared.form.SkolemForm.{SkolemForm}
-use Rattle.fo_norm.specs.Extended.{extended, with_tables}
+use Rattle.fo_core.specs.Skolems.{extended}
+use Rattle.fo_norm.specs.Extended.{with_tables}
 use Rattle.fo_norm.specs.Forms.{IsSkolem, IsForm, MeetsWith, MeetsForm}
 use Rattle.fo_terms.specs.declared.terms.Ground.{Ground}
 use Rattle.fo_terms.specs.Universe.{IsOf, AreOf, spare, IsTermOf, IsUniverse}

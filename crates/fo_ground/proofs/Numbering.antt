@@ -13,7 +13,7 @@ use Rattle.fo_core.specs.Sorted.{IsSymbol}
 use Rattle.fo_core.proofs.TableLemmas.{place-lt}
 use Rattle.fo_terms.specs.declared.terms.Universe.{Universe}
 use Rattle.fo_terms.specs.Arranged.{IsArranged}
-use Rattle.fo_terms.specs.Counts.{copies_of}
+use Rattle.fo_core.specs.TermCounts.{copies_of}
 use Rattle.fo_terms.specs.Universe.{IsOf, AreOf, sort_at, IsUniverse}
 use Rattle.fo_ground.specs.declared.grounded.Atom.{Atom}
 use Rattle.fo_ground.specs.declared.grounded.Atom.TheVariants.{Same, Fact, Helper}

@@ -9,7 +9,7 @@ use Rattle.fo_core.specs.Sorted.{IsSymbol}
 use Rattle.fo_terms.specs.declared.terms.Universe.{Universe}
 use Rattle.fo_terms.specs.Arranged.{earlier_applications, IsArranged}
 use Rattle.fo_terms.specs.Arranged.{place_of as placed_at}
-use Rattle.fo_terms.specs.Counts.{term_counts}
+use Rattle.fo_core.specs.TermCounts.{term_counts}
 use Rattle.fo_terms.specs.Universe.{IsOf, AreOf, IsTermOf, IsUniverse}
 use Rattle.fo_ground.specs.declared.layout.Layout.{Layout}
 use Rattle.fo_ground.specs.Layout.{slot, same_var, locals, IsReady}

@@ -11,7 +11,7 @@ use Rattle.fo_core.specs.declared.syntax.Sig.{Sig}
 use Rattle.fo_core.specs.Tables.{symbol_at}
 use Rattle.fo_core.specs.Weights.{power}
 use Rattle.fo_terms.specs.declared.terms.Universe.{Universe}
-use Rattle.fo_terms.specs.Counts.{counts_within, term_counts, count_over}
+use Rattle.fo_core.specs.TermCounts.{counts_within, term_counts, count_over}
 use Rattle.fo_ground.specs.declared.grounded.Atom.TheVariants.{Same}
 use Rattle.fo_ground.specs.Numbers.{row, row_end, rows, row_start, fact_count, fact_at, facts_of, fact_start, atoms_of}
 use Rattle.fo_ground.proofs.CongruenceLemmas.{any-default}

@@ -5,7 +5,7 @@ use Rattle.fo_core.specs.Tables.{symbol_at}
 use Rattle.fo_core.specs.Sorted.{IsSymbol}
 use Rattle.prop_core.specs.Formula.{MeetsAll, AreWithin}
 use Rattle.fo_norm.specs.declared.form.SkolemForm.{SkolemForm}
-use Rattle.fo_norm.specs.Extended.{extended}
+use Rattle.fo_core.specs.Skolems.{extended}
 use Rattle.fo_terms.specs.declared.terms.Universe.{Universe}
 use Rattle.fo_terms.specs.Universe.{IsOf, AreOf}
 use Rattle.fo_ground.specs.declared.grounded.Atom.{Atom}

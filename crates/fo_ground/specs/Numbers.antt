@@ -5,7 +5,7 @@ use Rattle.fo_core.specs.declared.syntax.Sig.{Sig}
 use Rattle.fo_core.specs.Tables.{symbol_at, tuples}
 use Rattle.fo_terms.specs.declared.terms.Universe.{Universe}
 use Rattle.fo_terms.specs.Arranged.{earlier_applications}
-use Rattle.fo_terms.specs.Counts.{copies_of, term_counts}
+use Rattle.fo_core.specs.TermCounts.{copies_of, term_counts}
 use Rattle.fo_terms.specs.Universe.{sort_at}
 use Rattle.fo_ground.specs.declared.grounded.Atom.{Atom}
 use Rattle.fo_ground.specs.declared.grounded.Atom.TheVariants.{Same, Fact}

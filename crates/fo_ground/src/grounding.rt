@@ -1,10 +1,10 @@
 ghost use Rattle.std.specs.Prelude.{◌≡◌, ◌≤◌, ◌++◌, ℕ, Bool, List, length, IfOk, OnOk};
 ghost use Rattle.fo_core.specs.declared.world.World.{World};
 ghost use Rattle.fo_core.specs.Sorted.{IsSig};
-ghost use Rattle.fo_norm.specs.Extended.{extended};
+ghost use Rattle.fo_core.specs.Skolems.{extended};
 ghost use Rattle.fo_norm.specs.Forms.{IsForm, MeetsForm};
 ghost use Rattle.fo_terms.specs.Arranged.{IsArranged};
-ghost use Rattle.fo_terms.specs.Counts.{term_counts};
+ghost use Rattle.fo_core.specs.TermCounts.{term_counts};
 ghost use Rattle.fo_terms.specs.FormWeight.{form_weight};
 ghost use Rattle.fo_terms.specs.Universe.{IsUniverse};
 ghost use Rattle.prop_core.specs.Formula.{AreWithin, MeetsAll};

@@ -1,7 +1,7 @@
 ghost use Rattle.std.specs.Prelude.{◌≡◌, ◌<◌, ◌*◌, length, MatchOption, ⊤};
 ghost use Rattle.std.specs.List.{All};
 ghost use Rattle.fo_core.specs.Weights.{power};
-ghost use Rattle.fo_terms.specs.Counts.{copies_of as copies_in};
+ghost use Rattle.fo_core.specs.TermCounts.{copies_of as copies_in};
 
 use fo_core::{Seq, Sig, Symbol};
 

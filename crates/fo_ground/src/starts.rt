@@ -1,9 +1,9 @@
 ghost use Rattle.std.specs.Prelude.{◌≡◌, ◌<◌, ◌^◌, map, length, IfOk};
 ghost use Rattle.std.specs.List.{All, range_with_len};
 ghost use Rattle.fo_core.specs.Sorted.{IsSig};
-ghost use Rattle.fo_norm.specs.Extended.{extended};
+ghost use Rattle.fo_core.specs.Skolems.{extended};
 ghost use Rattle.fo_terms.specs.Arranged.{IsArranged};
-ghost use Rattle.fo_terms.specs.Counts.{term_counts};
+ghost use Rattle.fo_core.specs.TermCounts.{term_counts};
 ghost use Rattle.fo_terms.specs.Places.{ArePlaces};
 ghost use Rattle.fo_terms.specs.Universe.{IsUniverse};
 ghost use Rattle.fo_ground.specs.Numbers.{row_start, symbol_start, atoms_of, rows};

@@ -2,10 +2,10 @@ ghost use Rattle.std.specs.Prelude.{◌≡◌, ◌<◌, ◌≤◌, ℕ, Bool, le
 ghost use Rattle.std.specs.List.{All};
 ghost use Rattle.fo_core.specs.Sorted.{IsSig};
 ghost use Rattle.fo_core.specs.Tables.{symbol_at, tuples as tuples_of};
-ghost use Rattle.fo_norm.specs.Extended.{extended};
+ghost use Rattle.fo_core.specs.Skolems.{extended};
 ghost use Rattle.fo_norm.specs.Forms.{IsForm, MeetsForm};
 ghost use Rattle.fo_terms.specs.Arranged.{IsArranged};
-ghost use Rattle.fo_terms.specs.Counts.{term_counts};
+ghost use Rattle.fo_core.specs.TermCounts.{term_counts};
 ghost use Rattle.fo_terms.specs.FormWeight.{AreFew, form_weight};
 ghost use Rattle.fo_terms.specs.Universe.{IsUniverse};
 ghost use Rattle.prop_core.specs.Formula.{MeetsAll, value_of};

@@ -5,10 +5,9 @@ use Rattle.std.proofs.lemmas.List.Elements.{Contains-append_left, Contains-push,
 use Rattle.fo_core.specs.declared.syntax.Sig.{Sig}
 use Rattle.fo_core.specs.declared.syntax.Symbol.{Symbol}
 use Rattle.fo_core.specs.declared.syntax.Formula.{Formula, True, False, Rel, Eq, Not', And', Or', All', Ex', Row_of-Formula, end_of-Formula, more_of-Formula}
-use Rattle.fo_core.specs.Skolems.{skolem, skolem_symbols, skolem_symbols_row, skolem_symbols_list}
+use Rattle.fo_core.specs.Skolems.{skolem, skolem_symbols, skolem_symbols_row, skolem_symbols_list, extended}
 use Rattle.fo_core.specs.SortGraph.{HasExistential, OneHasExistential, FormulaEdge, OneFormulaEdge, Leads, FunctionEdge, FormulasEdge, ClaimsEdge}
 use Rattle.fo_core.proofs.ShiftTruth.{either_way, any_cases, any_made}
-use Rattle.fo_norm.specs.Extended.{extended}
 
 module _ {X : Type 0} (P : X → Type 0) where
   none : Any P [] → ⊥

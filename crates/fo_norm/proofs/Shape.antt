@@ -17,9 +17,8 @@ use Rattle.fo_core.proofs.Rows.{row_of, args_of, sorted-Not, sorted-All}
 use Rattle.fo_core.proofs.Zips.{AllZip-at, AllZip-length}
 use Rattle.fo_norm.specs.declared.scope.Slot.{Slot}
 use Rattle.fo_norm.specs.declared.scope.Slot.TheVariants.{Level, Skolem}
-use Rattle.fo_norm.specs.Extended.{extended}
+use Rattle.fo_core.specs.Skolems.{extended, skolem, skolem_symbols, skolem_symbols_row}
 use Rattle.fo_norm.specs.Forms.{IsSkolem, IsAtom, IsNormal, AreNormal}
-use Rattle.fo_core.specs.Skolems.{skolem, skolem_symbols, skolem_symbols_row}
 use Rattle.fo_norm.specs.Skolem.{variables, slot_term, filled, filled_row, literal, joined, formed, formed_row}
 
 -- Skolem symbols

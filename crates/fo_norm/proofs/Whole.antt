@@ -16,10 +16,10 @@ use Rattle.fo_core.specs.Truth.{Truth, reading}
 use Rattle.fo_core.proofs.Rows.{sorted-And}
 use Rattle.fo_norm.specs.declared.form.SkolemForm.{SkolemForm}
 use Rattle.fo_norm.specs.declared.scope.Slot.{Slot}
-use Rattle.fo_norm.specs.Extended.{extended, with_tables}
+use Rattle.fo_core.specs.Skolems.{extended, skolem_symbols, skolem_symbols_list}
+use Rattle.fo_norm.specs.Extended.{with_tables}
 use Rattle.fo_core.specs.Queries.{IsQuery, MeetsQuery}
 use Rattle.fo_norm.specs.Forms.{IsForm, MeetsForm, IsSkolem, IsNormal}
-use Rattle.fo_core.specs.Skolems.{skolem_symbols, skolem_symbols_list}
 use Rattle.fo_norm.specs.Skolem.{formed, formed_list}
 use Rattle.fo_norm.proofs.InRows.{in-And}
 use Rattle.fo_norm.proofs.SyntaxRows.{symbols-And, formed-And}

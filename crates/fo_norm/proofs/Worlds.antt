@@ -15,8 +15,8 @@ use Rattle.fo_core.specs.Tables.{no_symbol, no_table, symbol_at, place, arg_size
 use Rattle.fo_core.specs.Sorted.{IsFormula}
 use Rattle.fo_core.specs.Truth.{Truth, TruthIn, reading}
 use Rattle.fo_core.proofs.TableLemmas.{fixed_at, place-lt}
-use Rattle.fo_norm.specs.Extended.{extended, with_tables}
-use Rattle.fo_core.specs.Skolems.{skolem_symbols}
+use Rattle.fo_core.specs.Skolems.{extended, skolem_symbols}
+use Rattle.fo_norm.specs.Extended.{with_tables}
 use Rattle.fo_norm.specs.Skolem.{formed}
 use Rattle.fo_norm.proofs.Readings.{Agree, agree-itself, IsSlot, vector, vector-none}
 use Rattle.fo_norm.proofs.Backward.{Under, InRange, sound}

@@ -9,7 +9,8 @@ use Rattle.fo_core.specs.declared.world.World.{World}
 use Rattle.fo_core.specs.Sorted.{HasSorts, IsFormula}
 use Rattle.fo_core.specs.Tables.{AreTables, Fits}
 use Rattle.fo_core.specs.Truth.{Truth}
-use Rattle.fo_norm.specs.Extended.{extended, with_tables}
+use Rattle.fo_core.specs.Skolems.{extended}
+use Rattle.fo_norm.specs.Extended.{with_tables}
 use Rattle.fo_norm.specs.declared.form.SkolemForm.{SkolemForm}
 
 -- the world is one for the signature and has as many copies as the form, and with these tables for

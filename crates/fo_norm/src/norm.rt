@@ -3,11 +3,10 @@ ghost use Rattle.std.specs.List.{All};
 ghost use Rattle.fo_core.specs.declared.syntax.Formula.TheVariants as F;
 ghost use Rattle.fo_core.specs.declared.world.World.{World};
 ghost use Rattle.fo_core.specs.Queries.{IsQuery, MeetsQuery};
-ghost use Rattle.fo_core.specs.Skolems.{skolem_symbols, skolem_symbols_list};
+ghost use Rattle.fo_core.specs.Skolems.{skolem_symbols, skolem_symbols_list, extended};
 ghost use Rattle.fo_core.specs.SortGraph.{FunctionEdge, ClaimsEdge};
 ghost use Rattle.fo_core.specs.Sorted.{IsSig};
 ghost use Rattle.fo_core.specs.Weights.{claim_nodes, skolem_nodes};
-ghost use Rattle.fo_norm.specs.Extended.{extended};
 ghost use Rattle.fo_norm.specs.Forms.{IsForm, MeetsForm};
 ghost use Rattle.fo_norm.specs.Skolem.{formed as formed_of, formed_list, literal as literal_of, joined as joined_of, constant as constant_of, universal as universal_of, existential as existential_of, universal_symbols, existential_symbols, CanForm, CanBind};
 

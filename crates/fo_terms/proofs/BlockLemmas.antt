@@ -15,7 +15,7 @@ use Rattle.fo_core.specs.Weights.{added, power}
 use Rattle.fo_core.proofs.TableLemmas.{filtered_at}
 use Rattle.fo_terms.specs.declared.terms.Ground.{Ground}
 use Rattle.fo_terms.specs.Blocks.{function_numbers, application, copy_block, function_block, sort_block, spare_of}
-use Rattle.fo_terms.specs.Counts.{leads_to, copies_of, applications, count_over}
+use Rattle.fo_core.specs.TermCounts.{leads_to, copies_of, applications, count_over}
 use Rattle.fo_terms.specs.Universe.{no_ground}
 use Rattle.fo_terms.proofs.Functions.{symbols-listed, filter-map, nonzero, count-none, count-some, leads_to-is, numbers-are}
 use Rattle.fo_terms.proofs.Sums.{added-same, added-const, added-map, added-more, added-take, length-flat_map}

@@ -9,14 +9,14 @@ use Rattle.fo_core.specs.Sorted.{IsSig}
 use Rattle.fo_core.specs.Tables.{symbol_at}
 use Rattle.fo_core.specs.Weights.{added, power}
 use Rattle.fo_norm.specs.declared.form.SkolemForm.{SkolemForm}
-use Rattle.fo_norm.specs.Extended.{extended}
+use Rattle.fo_core.specs.Skolems.{extended}
 use Rattle.fo_norm.specs.Forms.{IsForm}
 use Rattle.fo_terms.specs.Arranged.{IsArranged}
 use Rattle.fo_terms.specs.Blocks.{AreBases, AreFirsts, IsRanking, function_numbers, sort_block}
-use Rattle.fo_terms.specs.Counts.{term_counts, AreCounts}
+use Rattle.fo_core.specs.TermCounts.{term_counts, AreCounts}
 use Rattle.fo_terms.specs.FormWeight.{AreFew}
 use Rattle.fo_terms.specs.Universe.{IsUniverse}
-use Rattle.fo_terms.specs.Weight.{cut}
+use Rattle.fo_core.specs.QueryWeight.{cut}
 use Rattle.fo_terms.proofs.CountLemmas.{counts-solve}
 use Rattle.fo_terms.proofs.Cuts.{cut-small, map_cut-small}
 use Rattle.fo_terms.proofs.Functions.{numbers-are, whole_few, whole_sorts}

@@ -12,9 +12,9 @@ use Rattle.fo_core.specs.SortGraph.{FunctionEdge, Rises}
 use Rattle.fo_core.specs.Sorted.{HasSorts}
 use Rattle.fo_core.specs.Tables.{no_symbol, symbol_at}
 use Rattle.fo_core.specs.Weights.{added, power}
-use Rattle.fo_terms.specs.Counts.{leads_to, copies_of, applications, functions_to, count_over, counts_within, term_counts, AreCounts}
+use Rattle.fo_core.specs.TermCounts.{leads_to, copies_of, applications, functions_to, count_over, counts_within, term_counts, AreCounts}
 use Rattle.fo_terms.specs.Blocks.{IsRanking}
-use Rattle.fo_terms.specs.Weight.{cut}
+use Rattle.fo_core.specs.QueryWeight.{cut}
 use Rattle.fo_terms.proofs.Cuts.{cut-mul_left, cut-mul_right, cut-add}
 use Rattle.fo_terms.proofs.Functions.{leads_to-true}
 use Rattle.fo_terms.proofs.Rising.{rises-at}

@@ -2,7 +2,7 @@
 use Rattle.std.proofs.Common.{◌≡◌, ℕ, zero, suc, min, ◌+◌, ◌*◌, ◌<◌, ◌≤◌, ◌⊎◌, inl, inr, List, [], ◌∷◌, length, get_or, map, refl, ap, ◌∙◌, arith}
 use Rattle.std.proofs.lemmas.Bool.{cases_lt}
 use Rattle.std.proofs.Math.Nat.{mul_comm, mul-le-mul_left}
-use Rattle.fo_terms.specs.Weight.{cut}
+use Rattle.fo_core.specs.QueryWeight.{cut}
 
 grows : (a c : ℕ) → a ≤ a * suc c
 grows a c = omega (arith, mul-le-mul_left a (let h : 1 ≤ suc c = omega arith in h))

@@ -12,10 +12,10 @@ use Rattle.fo_core.specs.Sorted.{HasSorts, IsSig}
 use Rattle.fo_core.specs.Tables.{no_symbol, symbol_at}
 use Rattle.fo_core.specs.Weights.{added}
 use Rattle.fo_norm.specs.declared.form.SkolemForm.{SkolemForm}
-use Rattle.fo_norm.specs.Extended.{extended}
+use Rattle.fo_core.specs.Skolems.{extended}
 use Rattle.fo_norm.specs.Forms.{IsForm, IsSkolem}
 use Rattle.fo_terms.specs.Blocks.{function_numbers}
-use Rattle.fo_terms.specs.Counts.{leads_to, applications, functions_to, count_over}
+use Rattle.fo_core.specs.TermCounts.{leads_to, applications, functions_to, count_over}
 use Rattle.fo_terms.proofs.Sums.{added-map}
 
 -- a form's symbols together have sorts of the signature

@@ -13,7 +13,7 @@ use Rattle.fo_core.specs.Weights.{added}
 use Rattle.fo_core.proofs.TableLemmas.{filtered_at}
 use Rattle.fo_terms.specs.declared.terms.Universe.{Universe}
 use Rattle.fo_terms.specs.Arranged.{IsArranged, earlier_applications}
-use Rattle.fo_terms.specs.Counts.{applications, leads_to, term_counts}
+use Rattle.fo_core.specs.TermCounts.{applications, leads_to, term_counts}
 use Rattle.fo_terms.specs.Universe.{IsUniverse, sort_at}
 use Rattle.fo_terms.proofs.Functions.{count-some, function_count, function_sum, leads_to-is}
 use Rattle.fo_terms.proofs.Sums.{added-append, added-push}

@@ -13,7 +13,7 @@ use Rattle.fo_core.proofs.ValueLemmas.{horner, horner-le}
 use Rattle.fo_core.proofs.Zips.{AllZip-at, AllZip-length}
 use Rattle.fo_terms.specs.declared.terms.Universe.{Universe}
 use Rattle.fo_terms.specs.Arranged.{IsArranged, offsets, place_of}
-use Rattle.fo_terms.specs.Counts.{term_counts}
+use Rattle.fo_core.specs.TermCounts.{term_counts}
 use Rattle.fo_terms.specs.Universe.{AreOf, IsOf}
 use Rattle.fo_terms.proofs.TupleLemmas.{InBlock, offsets-below}
 

@@ -5,7 +5,7 @@ use Rattle.std.specs.Prelude.{slice_index}
 use Rattle.std.proofs.lemmas.List.{take_more, take_all, length-append}
 use Rattle.std.proofs.lemmas.List.Elements.{All-head, All-tail}
 use Rattle.fo_core.specs.Tables.{tuples}
-use Rattle.fo_terms.specs.Weight.{cut}
+use Rattle.fo_core.specs.QueryWeight.{cut}
 use Rattle.fo_terms.proofs.Cuts.{cut-add}
 use Rattle.fo_core.specs.Weights.{added, power}
 

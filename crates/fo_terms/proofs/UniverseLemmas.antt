@@ -14,7 +14,7 @@ use Rattle.fo_core.proofs.TableLemmas.{place-lt, tuples-positive}
 use Rattle.fo_terms.specs.declared.terms.Ground.{Ground}
 use Rattle.fo_terms.specs.Arranged.{IsArranged, offsets, place_of}
 use Rattle.fo_terms.specs.Blocks.{AreFirsts, IsRanking, application, sort_block, spare_of, function_numbers, tuple_at}
-use Rattle.fo_terms.specs.Counts.{copies_of, applications, term_counts, AreCounts}
+use Rattle.fo_core.specs.TermCounts.{copies_of, applications, term_counts, AreCounts}
 use Rattle.fo_terms.specs.Universe.{IsApplied, IsOf, AreOf, IsSpare, IsTermOf, IsUniverse, no_ground, sort_at, spare, term_at}
 use Rattle.fo_terms.proofs.BlockLemmas.{IsAlone, IsEntry, at-block, block-cases, block-length, cover, earlier, flat-at}
 use Rattle.fo_terms.proofs.CountLemmas.{before, counts-solve}

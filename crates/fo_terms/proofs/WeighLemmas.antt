@@ -6,7 +6,7 @@ use Rattle.fo_core.specs.declared.syntax.Formula.{Formula}
 use Rattle.fo_core.specs.declared.syntax.Formula.TheVariants as F
 use Rattle.fo_core.specs.Weights.{added, power, nodes}
 use Rattle.fo_core.proofs.Rows.{sorted-Not, sorted-And, sorted-Or, sorted-All, sorted-Ex}
-use Rattle.fo_terms.specs.Weight.{cut}
+use Rattle.fo_core.specs.QueryWeight.{cut}
 use Rattle.fo_terms.specs.Weighable.{CanWeigh}
 use Rattle.fo_terms.proofs.Cuts.{cut-add, cut-mul_left}
 use Rattle.fo_terms.proofs.NodeRows.{nodes-Not, nodes-And, nodes-Or, nodes-All, nodes-not_All, nodes-Ex, nodes-not_Ex}

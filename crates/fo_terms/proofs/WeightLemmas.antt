@@ -7,16 +7,15 @@ use Rattle.std.proofs.lemmas.Nat.{mul-le}
 use Rattle.fo_core.specs.declared.query.Query.{Query}
 use Rattle.fo_core.specs.declared.syntax.Sig.{Sig}
 use Rattle.fo_core.specs.declared.syntax.Symbol.{Symbol}
-use Rattle.fo_core.specs.Skolems.{skolem_symbols_list}
+use Rattle.fo_core.specs.Skolems.{skolem_symbols_list, extended}
 use Rattle.fo_core.specs.Sorted.{IsFormula}
 use Rattle.fo_core.specs.Weights.{added, claim_nodes, skolem_nodes}
 use Rattle.fo_norm.specs.declared.form.SkolemForm.{SkolemForm}
-use Rattle.fo_norm.specs.Extended.{extended}
 use Rattle.fo_norm.specs.Forms.{IsForm}
-use Rattle.fo_terms.specs.Counts.{term_counts}
+use Rattle.fo_core.specs.TermCounts.{term_counts}
 use Rattle.fo_terms.specs.FormWeight.{AreFew, form_weight}
 use Rattle.fo_terms.specs.Weighable.{CanWeigh}
-use Rattle.fo_terms.specs.Weight.{cut, query_weight, signature_weight, sort_weight, symbol_weight}
+use Rattle.fo_core.specs.QueryWeight.{cut, query_weight, signature_weight, sort_weight, symbol_weight}
 use Rattle.fo_terms.proofs.RankLemmas.{added-sum_by}
 use Rattle.fo_terms.proofs.Sums.{added-at}
 

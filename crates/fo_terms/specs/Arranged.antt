@@ -6,7 +6,7 @@ use Rattle.fo_core.specs.Sorted.{IsSymbol}
 use Rattle.fo_core.specs.Tables.{symbol_at, place}
 use Rattle.fo_core.specs.Weights.{added, power}
 use Rattle.fo_terms.specs.declared.terms.Universe.{Universe}
-use Rattle.fo_terms.specs.Counts.{leads_to, applications, term_counts, AreCounts}
+use Rattle.fo_core.specs.TermCounts.{leads_to, applications, term_counts, AreCounts}
 use Rattle.fo_terms.specs.Universe.{IsOf, AreOf, IsTermOf}
 
 -- how far these places lie behind the first places of their sorts

@@ -7,7 +7,7 @@ use Rattle.fo_core.specs.declared.syntax.Symbol.{Symbol}
 use Rattle.fo_core.specs.Tables.{symbol_at, tuples}
 use Rattle.fo_core.specs.Weights.{added, power}
 use Rattle.fo_terms.specs.declared.terms.Ground.{Ground}
-use Rattle.fo_terms.specs.Counts.{leads_to, copies_of}
+use Rattle.fo_core.specs.TermCounts.{leads_to, copies_of}
 use Rattle.fo_terms.specs.Universe.{spare}
 
 -- the sorts in an order in which their numbers never fall

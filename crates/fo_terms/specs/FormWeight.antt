@@ -4,7 +4,7 @@ use Rattle.std.specs.List.{All}
 use Rattle.fo_core.specs.declared.syntax.Sig.{Sig}
 use Rattle.fo_core.specs.Weights.{claim_nodes, skolem_nodes}
 use Rattle.fo_norm.specs.declared.form.SkolemForm.{SkolemForm}
-use Rattle.fo_terms.specs.Weight.{cut, signature_weight}
+use Rattle.fo_core.specs.QueryWeight.{cut, signature_weight}
 
 -- the weight of a form, where each sort has so many terms: that of a query with this form. An
 -- existential's node is that of its Skolem function, below the universals that are its arguments.

@@ -1,9 +1,7 @@
 pub mod Arranged
 pub mod Blocks
-pub mod Counts
 pub mod Entries
 pub mod FormWeight
 pub mod Places
 pub mod Universe
 pub mod Weighable
-pub mod Weight

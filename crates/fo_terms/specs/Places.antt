@@ -5,7 +5,7 @@ use Rattle.fo_core.specs.Tables.{symbol_at}
 use Rattle.fo_terms.specs.declared.places.Places.{Places}
 use Rattle.fo_terms.specs.declared.terms.Universe.{Universe}
 use Rattle.fo_terms.specs.Arranged.{earlier_applications}
-use Rattle.fo_terms.specs.Counts.{term_counts}
+use Rattle.fo_core.specs.TermCounts.{term_counts}
 
 -- how many terms each sort has, and the place of each function's first application
 pub record ArePlaces (sig : Sig) (copies : ℕ) (u : Universe) (p : Places) : Type 0 where

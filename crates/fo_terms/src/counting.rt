@@ -3,11 +3,11 @@ ghost use Rattle.std.specs.List.{All};
 ghost use Rattle.fo_core.specs.SortGraph.{FunctionEdge, Rises};
 ghost use Rattle.fo_core.specs.Sorted.{HasSorts, IsSig};
 ghost use Rattle.fo_core.specs.Weights.{power};
-ghost use Rattle.fo_norm.specs.Extended.{extended};
+ghost use Rattle.fo_core.specs.Skolems.{extended};
 ghost use Rattle.fo_norm.specs.Forms.{IsForm};
 ghost use Rattle.fo_terms.specs.Blocks.{function_numbers};
-ghost use Rattle.fo_terms.specs.Counts.{copies_of as copies_in, applications as applications_of, count_over, term_counts, AreCounts};
-ghost use Rattle.fo_terms.specs.Weight.{cut};
+ghost use Rattle.fo_core.specs.TermCounts.{copies_of as copies_in, applications as applications_of, count_over, term_counts, AreCounts};
+ghost use Rattle.fo_core.specs.QueryWeight.{cut};
 
 use crate::ranking::ranked;
 use crate::symbols::{functions, symbol_of};

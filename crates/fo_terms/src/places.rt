@@ -1,10 +1,10 @@
 ghost use Rattle.std.specs.Prelude.{◌≡◌, ℕ, ◌+◌, ◌<◌, ◌^◌, ◌++◌, [], ◌∷◌, false, cond, length, slice_index, IfOk, OnOk};
 ghost use Rattle.fo_core.specs.Sorted.{HasSorts, IsSig, IsSymbol};
 ghost use Rattle.fo_core.specs.Tables.{symbol_at};
-ghost use Rattle.fo_norm.specs.Extended.{extended};
+ghost use Rattle.fo_core.specs.Skolems.{extended};
 ghost use Rattle.fo_norm.specs.Forms.{IsForm};
 ghost use Rattle.fo_terms.specs.Arranged.{IsArranged, earlier_applications, place_of};
-ghost use Rattle.fo_terms.specs.Counts.{applications as applications_of, leads_to, term_counts};
+ghost use Rattle.fo_core.specs.TermCounts.{applications as applications_of, leads_to, term_counts};
 ghost use Rattle.fo_terms.specs.FormWeight.{AreFew};
 ghost use Rattle.fo_terms.specs.Places.{ArePlaces};
 ghost use Rattle.fo_terms.specs.Universe.{AreOf, IsTermOf, IsUniverse};

@@ -3,7 +3,7 @@ ghost use Rattle.std.specs.List.{All};
 ghost use Rattle.fo_core.specs.SortGraph.{FunctionEdge, Rises};
 ghost use Rattle.fo_core.specs.Sorted.{HasSorts, IsSig};
 ghost use Rattle.fo_core.specs.Tables.{symbol_at};
-ghost use Rattle.fo_norm.specs.Extended.{extended};
+ghost use Rattle.fo_core.specs.Skolems.{extended};
 ghost use Rattle.fo_norm.specs.Forms.{IsForm};
 ghost use Rattle.fo_terms.specs.Blocks.{IsRanking};
 ghost use Rattle.fo_terms.specs.Entries.{entries_of};

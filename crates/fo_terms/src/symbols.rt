@@ -1,9 +1,9 @@
 ghost use Rattle.std.specs.Prelude.{◌≡◌, ℕ, ◌<◌, [], ◌∷◌, ◌++◌, cond, length, slice_index_or, IfOk, OnOk};
 ghost use Rattle.fo_core.specs.Sorted.{HasSorts, IsSig};
 ghost use Rattle.fo_core.specs.Tables.{symbol_at};
-ghost use Rattle.fo_norm.specs.Extended.{extended};
+ghost use Rattle.fo_core.specs.Skolems.{extended};
 ghost use Rattle.fo_norm.specs.Forms.{IsForm};
-ghost use Rattle.fo_terms.specs.Counts.{leads_to};
+ghost use Rattle.fo_core.specs.TermCounts.{leads_to};
 ghost use Rattle.fo_terms.specs.Blocks.{function_numbers};
 
 use fo_core::{Seq, Sig, Symbol};

@@ -1,8 +1,8 @@
 ghost use Rattle.fo_core.specs.Sorted.{IsSig};
-ghost use Rattle.fo_norm.specs.Extended.{extended};
+ghost use Rattle.fo_core.specs.Skolems.{extended};
 ghost use Rattle.fo_norm.specs.Forms.{IsForm};
 ghost use Rattle.fo_terms.specs.Arranged.{IsArranged};
-ghost use Rattle.fo_terms.specs.Counts.{term_counts};
+ghost use Rattle.fo_core.specs.TermCounts.{term_counts};
 ghost use Rattle.fo_terms.specs.FormWeight.{AreFew};
 ghost use Rattle.fo_terms.specs.Universe.{IsUniverse};
 

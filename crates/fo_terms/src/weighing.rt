@@ -5,7 +5,7 @@ ghost use Rattle.fo_core.specs.Weights.{added, power, nodes as nodes_of, claim_n
 ghost use Rattle.fo_norm.specs.Forms.{IsForm};
 ghost use Rattle.fo_terms.specs.FormWeight.{AreFew, form_weight};
 ghost use Rattle.fo_terms.specs.Weighable.{CanWeigh};
-ghost use Rattle.fo_terms.specs.Weight.{cut, sort_weight, symbol_weight as symbol_weight_of};
+ghost use Rattle.fo_core.specs.QueryWeight.{cut, sort_weight, symbol_weight as symbol_weight_of};
 
 use crate::counting::{copies_of, tuples};
 use fo_core::{Formula, Sig, Symbol};

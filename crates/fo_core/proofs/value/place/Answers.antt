@@ -1,6 +1,6 @@
 use Rattle.std.proofs.Common.{arith, map}
 use Rattle.std.specs.Prelude.{slice_index}
-use Rattle.fo_core.proofs.PlaceLemmas.{elements-below, place_more, place_fits, place_done, sort_count, sort_within, size_at}
+use Rattle.fo_core.proofs.PlaceLemmas.{elements-below, place_more, place_fits, place_done, sort_within, size_at}
 use Rattle.fo_core.proofs.value.place.Goals as goal
 
 pub at-requires : goal.at-requires

@@ -1,7 +1,7 @@
 use Rattle.std.proofs.Common.{◌≡◌, ◌∙◌, ◌+◌, ◌*◌, ◌/◌, ◌<◌, ap, subst, arith, get_or, drop, map}
 use Rattle.std.specs.Prelude.{slice_index}
 use Rattle.fo_core.specs.Weights.{power}
-use Rattle.fo_terms.specs.Counts.{term_counts}
+use Rattle.fo_core.specs.TermCounts.{term_counts}
 use Rattle.fo_ground.specs.declared.layout.Layout.{Layout}
 use Rattle.fo_ground.specs.Numbers.{count_of}
 use Rattle.fo_ground.proofs.ArgumentLemmas.{part-positive, quotient-lt, rest-lt, part-is, power-split, next-argument}

@@ -6,7 +6,7 @@ use Rattle.fo_core.specs.declared.syntax.Symbol.{Symbol}
 use Rattle.fo_core.specs.Sorted.{HasSorts}
 use Rattle.fo_core.specs.Tables.{no_symbol, symbol_at}
 use Rattle.fo_core.specs.Weights.{power}
-use Rattle.fo_terms.specs.Counts.{term_counts}
+use Rattle.fo_core.specs.TermCounts.{term_counts}
 use Rattle.fo_ground.specs.declared.layout.Layout.{Layout}
 use Rattle.fo_ground.specs.declared.grounded.Atom.TheVariants.{Fact}
 use Rattle.fo_ground.specs.Numbers.{tuple_count, fact_at}

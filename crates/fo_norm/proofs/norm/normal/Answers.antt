@@ -1,9 +1,8 @@
 use Rattle.std.proofs.Common.{◌∙◌, ◌+◌, ◌↔◌, [], List, sym, ap, subst, arith, true, refl}
 use Rattle.fo_core.specs.declared.syntax.Symbol.{Symbol}
-use Rattle.fo_core.specs.Skolems.{skolem_symbols_list}
+use Rattle.fo_core.specs.Skolems.{skolem_symbols_list, extended}
 use Rattle.fo_core.specs.SortGraph.{FunctionEdge, ClaimsEdge}
 use Rattle.fo_core.specs.Weights.{claim_nodes, skolem_nodes}
-use Rattle.fo_norm.specs.Extended.{extended}
 use Rattle.fo_norm.proofs.Edges.{same_edges}
 use Rattle.fo_norm.proofs.SyntaxRows.{CanForm-claims}
 use Rattle.fo_norm.proofs.Weights.{claims-formed}

@@ -1,5 +1,5 @@
 use Rattle.std.proofs.Common.{◌<◌, length, get_or, sym, subst}
-use Rattle.fo_norm.specs.Extended.{extended}
+use Rattle.fo_core.specs.Skolems.{extended}
 use Rattle.fo_terms.proofs.Functions.{numbers-are}
 use Rattle.fo_terms.proofs.build.push_sort.Goals as goal
 

@@ -1,7 +1,7 @@
 use Rattle.std.proofs.Common.{◌≡◌, ◌++◌, take}
 use Rattle.std.specs.List.{flat_map}
 use Rattle.fo_core.specs.Tables.{symbol_at}
-use Rattle.fo_norm.specs.Extended.{extended}
+use Rattle.fo_core.specs.Skolems.{extended}
 use Rattle.fo_terms.specs.Blocks.{function_block}
 use Rattle.fo_terms.proofs.build.push_sort.Given as goal
 

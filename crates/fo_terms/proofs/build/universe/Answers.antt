@@ -4,11 +4,11 @@ use Rattle.std.specs.Prelude.{slice_index}
 use Rattle.std.proofs.lemmas.List.{take_all}
 use Rattle.fo_core.specs.Tables.{symbol_at}
 use Rattle.fo_core.specs.Weights.{added, power}
-use Rattle.fo_norm.specs.Extended.{extended}
+use Rattle.fo_core.specs.Skolems.{extended}
 use Rattle.fo_terms.specs.declared.terms.Ground.{Ground}
 use Rattle.fo_terms.specs.Arranged.{IsArranged}
 use Rattle.fo_terms.specs.Blocks.{AreBases, AreFirsts, IsRanking, function_numbers, sort_block}
-use Rattle.fo_terms.specs.Counts.{term_counts}
+use Rattle.fo_core.specs.TermCounts.{term_counts}
 use Rattle.fo_terms.specs.Universe.{IsUniverse}
 use Rattle.fo_terms.proofs.Built.{arranged-built, bases, sorts-known, sorts-once, sum-few, tuples-few, uncut, universe-built}
 use Rattle.fo_terms.proofs.RankLemmas.{ranked-within}

@@ -1,8 +1,8 @@
 use Rattle.std.proofs.Common.{◌≡◌, [], length, get_or, sym, ap, subst, ◌∙◌, arith, length-set}
-use Rattle.fo_norm.specs.Extended.{extended}
+use Rattle.fo_core.specs.Skolems.{extended}
 use Rattle.fo_terms.specs.Blocks.{IsRanking}
-use Rattle.fo_terms.specs.Counts.{count_over}
-use Rattle.fo_terms.specs.Weight.{cut}
+use Rattle.fo_core.specs.TermCounts.{count_over}
+use Rattle.fo_core.specs.QueryWeight.{cut}
 use Rattle.fo_terms.proofs.CountLemmas.{counts-solve, count-more, counts-done}
 use Rattle.fo_terms.proofs.Functions.{whole_sorts}
 use Rattle.fo_terms.proofs.RankLemmas.{ranked-within}

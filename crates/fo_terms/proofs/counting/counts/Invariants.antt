@@ -1,8 +1,8 @@
 use Rattle.std.proofs.Common.{ℕ, ◌≡◌, ◌<◌, length, get_or}
 use Rattle.std.specs.Prelude.{slice_index}
-use Rattle.fo_norm.specs.Extended.{extended}
-use Rattle.fo_terms.specs.Counts.{term_counts}
-use Rattle.fo_terms.specs.Weight.{cut}
+use Rattle.fo_core.specs.Skolems.{extended}
+use Rattle.fo_core.specs.TermCounts.{term_counts}
+use Rattle.fo_core.specs.QueryWeight.{cut}
 use Rattle.fo_terms.proofs.counting.counts.Given as goal
 
 -- the sorts so far have their counts

@@ -3,9 +3,9 @@ use Rattle.std.specs.Prelude.{◌==◌}
 use Rattle.std.proofs.lemmas.Bool.{true≢false}
 use Rattle.fo_core.specs.Weights.{added}
 use Rattle.fo_core.specs.Tables.{symbol_at}
-use Rattle.fo_norm.specs.Extended.{extended}
-use Rattle.fo_terms.specs.Counts.{applications}
-use Rattle.fo_terms.specs.Weight.{cut}
+use Rattle.fo_core.specs.Skolems.{extended}
+use Rattle.fo_core.specs.TermCounts.{applications}
+use Rattle.fo_core.specs.QueryWeight.{cut}
 use Rattle.fo_terms.proofs.Functions.{numbers-are, count-none, count-some}
 use Rattle.fo_terms.proofs.Sums.{sum-more, sum-all}
 use Rattle.fo_terms.proofs.counting.sort_count.Goals as goal

@@ -1,9 +1,9 @@
 use Rattle.std.proofs.Common.{◌≡◌, take}
 use Rattle.fo_core.specs.Tables.{symbol_at}
 use Rattle.fo_core.specs.Weights.{added}
-use Rattle.fo_norm.specs.Extended.{extended}
-use Rattle.fo_terms.specs.Counts.{applications}
-use Rattle.fo_terms.specs.Weight.{cut}
+use Rattle.fo_core.specs.Skolems.{extended}
+use Rattle.fo_core.specs.TermCounts.{applications}
+use Rattle.fo_core.specs.QueryWeight.{cut}
 use Rattle.fo_terms.proofs.counting.sort_count.Given as goal
 
 -- the sum over the functions so far

@@ -1,6 +1,6 @@
 use Rattle.std.proofs.Common.{◌*◌, take, get_or, sym, ap, ◌∙◌}
 use Rattle.fo_core.specs.Weights.{power}
-use Rattle.fo_terms.specs.Weight.{cut}
+use Rattle.fo_core.specs.QueryWeight.{cut}
 use Rattle.fo_terms.proofs.Cuts.{cut-mul_left}
 use Rattle.fo_terms.proofs.Sums.{power-more}
 use Rattle.fo_terms.proofs.counting.tuples.Goals as goal

@@ -1,7 +1,7 @@
 use Rattle.std.proofs.Common.{◌≡◌, ◌+◌, ◌<◌, List, length, set, ap, ◌∙◌, arith, length-set}
 use Rattle.std.specs.Prelude.{slice_index}
 use Rattle.std.proofs.lemmas.List.{get_or_read}
-use Rattle.fo_norm.specs.Extended.{extended}
+use Rattle.fo_core.specs.Skolems.{extended}
 use Rattle.fo_terms.specs.declared.terms.Ground.{Ground}
 use Rattle.fo_terms.specs.Universe.{no_ground, sort_at}
 use Rattle.fo_terms.proofs.PlaceSteps.{count-more, counted-all}

@@ -3,8 +3,8 @@ use Rattle.std.specs.Prelude.{slice_index}
 use Rattle.std.proofs.lemmas.List.{length_push}
 use Rattle.fo_core.specs.declared.syntax.Symbol.{Symbol}
 use Rattle.fo_core.specs.Tables.{no_symbol, symbol_at}
-use Rattle.fo_norm.specs.Extended.{extended}
-use Rattle.fo_terms.specs.Counts.{applications}
+use Rattle.fo_core.specs.Skolems.{extended}
+use Rattle.fo_core.specs.TermCounts.{applications}
 use Rattle.fo_terms.proofs.Functions.{whole_sorts}
 use Rattle.fo_terms.proofs.PlaceSteps.{applications-few, next-more, starts-more}
 use Rattle.fo_terms.proofs.places.starts.Goals as goal

@@ -3,9 +3,9 @@ use Rattle.std.specs.List.{filter}
 use Rattle.std.specs.Prelude.{slice_index}
 use Rattle.fo_core.specs.Tables.{symbol_at}
 use Rattle.fo_core.specs.Weights.{added}
-use Rattle.fo_norm.specs.Extended.{extended}
+use Rattle.fo_core.specs.Skolems.{extended}
 use Rattle.fo_terms.specs.Arranged.{earlier_applications}
-use Rattle.fo_terms.specs.Counts.{applications, leads_to, term_counts}
+use Rattle.fo_core.specs.TermCounts.{applications, leads_to, term_counts}
 use Rattle.fo_terms.proofs.places.starts.Given as goal
 
 -- the starts of the functions so far, and where the next function to each sort starts

@@ -1,5 +1,5 @@
 use Rattle.std.proofs.Common.{rules, arith, refl}
-use Rattle.fo_norm.specs.Extended.{extended}
+use Rattle.fo_core.specs.Skolems.{extended}
 use Rattle.fo_terms.proofs.Rising.{rises-from}
 use Rattle.fo_terms.proofs.ranking.rises.Goals as goal
 

@@ -2,8 +2,8 @@ use Rattle.std.proofs.Common.{ℕ, [], ◌∷◌, ◌++◌, cond, List, sym, ap,
 use Rattle.std.specs.List.{filter, range_with_len}
 use Rattle.fo_core.specs.declared.syntax.Symbol.{Symbol}
 use Rattle.fo_core.specs.Tables.{symbol_at}
-use Rattle.fo_norm.specs.Extended.{extended}
-use Rattle.fo_terms.specs.Counts.{leads_to}
+use Rattle.fo_core.specs.Skolems.{extended}
+use Rattle.fo_core.specs.TermCounts.{leads_to}
 use Rattle.fo_terms.proofs.Functions.{numbers-more}
 use Rattle.fo_terms.proofs.symbols.functions.Goals as goal
 

@@ -1,8 +1,8 @@
 use Rattle.std.proofs.Common.{ℕ, ◌≡◌, ◌<◌, [], length, get_or}
 use Rattle.std.specs.List.{filter, range_with_len}
 use Rattle.fo_core.specs.Tables.{symbol_at}
-use Rattle.fo_norm.specs.Extended.{extended}
-use Rattle.fo_terms.specs.Counts.{leads_to}
+use Rattle.fo_core.specs.Skolems.{extended}
+use Rattle.fo_core.specs.TermCounts.{leads_to}
 use Rattle.fo_terms.proofs.symbols.functions.Given as goal
 
 -- the numbers so far

@@ -1,6 +1,6 @@
 use Rattle.std.proofs.Common.{ℕ, List, ◌≡◌, ◌+◌, take}
 use Rattle.fo_core.specs.Weights.{added, power, nodes}
-use Rattle.fo_terms.specs.Weight.{cut}
+use Rattle.fo_core.specs.QueryWeight.{cut}
 use Rattle.fo_terms.proofs.weighing.+nodes.Given as goal
 
 -- the node itself and those of the parts so far

@@ -1,7 +1,7 @@
 use Rattle.std.proofs.Common.{true, [], refl, ap, ◌∙◌}
 use Rattle.fo_core.specs.declared.syntax.Formula.{Formula}
 use Rattle.fo_core.specs.Weights.{nodes}
-use Rattle.fo_terms.specs.Weight.{cut}
+use Rattle.fo_core.specs.QueryWeight.{cut}
 use Rattle.fo_terms.proofs.Sums.{sum-more}
 use Rattle.fo_terms.proofs.weighing.claim_nodes.Goals as goal
 

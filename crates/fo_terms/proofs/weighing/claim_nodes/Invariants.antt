@@ -1,6 +1,6 @@
 use Rattle.std.proofs.Common.{◌≡◌, true, [], take}
 use Rattle.fo_core.specs.Weights.{added, nodes}
-use Rattle.fo_terms.specs.Weight.{cut}
+use Rattle.fo_core.specs.QueryWeight.{cut}
 use Rattle.fo_terms.proofs.weighing.claim_nodes.Given as goal
 
 -- the claims so far

@@ -1,5 +1,5 @@
 use Rattle.std.proofs.Common.{◌+◌, ◌*◌, get_or, ap, ◌∙◌}
-use Rattle.fo_terms.specs.Weight.{cut, sort_weight}
+use Rattle.fo_core.specs.QueryWeight.{cut, sort_weight}
 use Rattle.fo_terms.proofs.Cuts.{cut-add, cut-add_right, cut-mul_left}
 use Rattle.fo_terms.proofs.Sums.{sum-more}
 use Rattle.fo_terms.proofs.weighing.sorts_weight.Goals as goal

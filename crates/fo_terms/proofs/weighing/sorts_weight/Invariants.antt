@@ -1,6 +1,6 @@
 use Rattle.std.proofs.Common.{◌≡◌, take}
 use Rattle.fo_core.specs.Weights.{added}
-use Rattle.fo_terms.specs.Weight.{cut, sort_weight}
+use Rattle.fo_core.specs.QueryWeight.{cut, sort_weight}
 use Rattle.fo_terms.proofs.weighing.sorts_weight.Given as goal
 
 -- the sorts so far

@@ -1,7 +1,7 @@
 use Rattle.std.proofs.Common.{◌*◌, get_or, ap, ◌∙◌}
 use Rattle.std.specs.Prelude.{slice_index}
 use Rattle.fo_core.specs.Weights.{power}
-use Rattle.fo_terms.specs.Weight.{cut}
+use Rattle.fo_core.specs.QueryWeight.{cut}
 use Rattle.fo_terms.proofs.Cuts.{cut-mul_left}
 use Rattle.fo_terms.proofs.Sums.{sum-more}
 use Rattle.fo_terms.proofs.weighing.symbol_weight.Goals as goal

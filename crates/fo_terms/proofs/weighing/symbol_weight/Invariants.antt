@@ -1,7 +1,7 @@
 use Rattle.std.proofs.Common.{◌≡◌, ◌*◌, take}
 use Rattle.std.specs.Prelude.{slice_index}
 use Rattle.fo_core.specs.Weights.{added, power}
-use Rattle.fo_terms.specs.Weight.{cut}
+use Rattle.fo_core.specs.QueryWeight.{cut}
 use Rattle.fo_terms.proofs.weighing.symbol_weight.Given as goal
 
 -- the arguments so far

@@ -1,6 +1,6 @@
 use Rattle.std.proofs.Common.{◌≡◌, take}
 use Rattle.fo_core.specs.Weights.{added}
-use Rattle.fo_terms.specs.Weight.{cut, symbol_weight}
+use Rattle.fo_core.specs.QueryWeight.{cut, symbol_weight}
 use Rattle.fo_terms.proofs.weighing.symbols_weight.Given as goal
 
 -- the symbols so far

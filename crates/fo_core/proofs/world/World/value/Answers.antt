@@ -1,7 +1,6 @@
-use Rattle.std.proofs.Common.{◌<◌, ◌≡◌, ◌∙◌, length, map, subst, sym, ap, arith}
-use Rattle.std.specs.Prelude.{slice_index}
+use Rattle.std.proofs.Common.{◌∙◌, length, ap, arith}
 use Rattle.fo_core.specs.declared.world.Table.{Table}
-use Rattle.fo_core.specs.Tables.{no_symbol, symbol_at, tuples, place as place_of}
+use Rattle.fo_core.specs.Tables.{no_symbol, symbol_at}
 use Rattle.fo_core.proofs.TableLemmas.{table_is, place-lt}
 use Rattle.fo_core.proofs.PlaceLemmas.{elements-below}
 use Rattle.fo_core.proofs.world.World.value.Goals as goal

@@ -2,9 +2,9 @@ use Rattle.std.proofs.Common.{◌≡◌, ℕ, ◌+◌, ◌-◌, ◌*◌, List, g
 use Rattle.std.specs.Prelude.{slice_index}
 use Rattle.fo_core.specs.declared.syntax.Symbol.{Symbol}
 use Rattle.fo_core.specs.Tables.{symbol_at, tuples, place as place_in}
-use Rattle.fo_norm.specs.Extended.{extended}
+use Rattle.fo_core.specs.Skolems.{extended}
 use Rattle.fo_terms.specs.Arranged.{offsets, place_of}
-use Rattle.fo_terms.specs.Counts.{term_counts}
+use Rattle.fo_core.specs.TermCounts.{term_counts}
 use Rattle.fo_terms.specs.Universe.{IsTermOf}
 use Rattle.fo_terms.proofs.Functions.{whole_sorts}
 use Rattle.fo_terms.proofs.Reckoned.{arg-in, place-done, place-fits, place-more, placed-within}

@@ -3,10 +3,9 @@ use Rattle.std.specs.Prelude.{ℕ, ◌+◌, ◌*◌, min, true, List, [], slice_
 use Rattle.fo_core.specs.declared.query.Query.{Query}
 use Rattle.fo_core.specs.declared.syntax.Sig.{Sig}
 use Rattle.fo_core.specs.declared.syntax.Symbol.{Symbol}
-use Rattle.fo_core.specs.Skolems.{skolem_symbols_list}
+use Rattle.fo_core.specs.Skolems.{skolem_symbols_list, extended}
 use Rattle.fo_core.specs.Weights.{added, power, claim_nodes}
-use Rattle.fo_norm.specs.Extended.{extended}
-use Rattle.fo_terms.specs.Counts.{copies_of, term_counts}
+use Rattle.fo_core.specs.TermCounts.{copies_of, term_counts}
 
 -- a number, or the greatest of 64 bits where it is above that
 abbrev pub cut : ℕ → ℕ
