@@ -1,4 +1,5 @@
 pub mod Binders
+pub mod CaseLemmas
 pub mod CopyLemmas
 pub mod InductiveLemmas
 pub mod Kept

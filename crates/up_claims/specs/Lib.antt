@@ -2,3 +2,4 @@ pub mod Breaking
 pub mod Claims
 pub mod Inductive
 pub mod Transitions
+pub mod VerifyQueries
