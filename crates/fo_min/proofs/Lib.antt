@@ -1,0 +1,4 @@
+pub mod ListLemmas
+pub mod BuildingLemmas
+pub mod WorldLemmas
+pub mod SearchLemmas

@@ -1,0 +1,64 @@
+-- Lists over ranges of numbers that grow by one.
+use Rattle.std.proofs.Common.{◌≡◌, ℕ, Bool, true, false, cond, ◌+◌, ◌-◌, ◌*◌, ◌<◌, ◌≤◌, List, [], ◌∷◌, ◌++◌, length, map, drop, get_or, refl, sym, ap, ◌∙◌, add-one, zero-add, append-nil, append_assoc, arith}
+use Rattle.std.specs.List.{filter, flat_map, range_with_len}
+use Rattle.std.proofs.Math.Seq.{drop-cons}
+use Rattle.std.proofs.lemmas.Grind.{flat_map-append}
+use Rattle.std.proofs.lemmas.List.FromFn.{map-range_with_len_more}
+use Rattle.fo_core.specs.Tables.{tuples}
+use Rattle.fo_least.proofs.Pieces.{range-more}
+
+pub map_more : {X : Type 0} (f : ℕ → X) (n : ℕ) → map f (range_with_len 0 (n + 1)) ≡ map f (range_with_len 0 n) ++ f n ∷ []
+map_more f n = map-range_with_len_more f 0 n n (zero-add n)
+
+pub flat_map_more : {X : Type 0} (f : ℕ → List X) (n : ℕ) → flat_map f (range_with_len 0 (n + 1)) ≡ flat_map f (range_with_len 0 n) ++ f n
+flat_map_more f n = ap (flat_map f) (range-more n) ∙ flat_map-append f (range_with_len 0 n) (n ∷ []) ∙ ap (λ xs. flat_map f (range_with_len 0 n) ++ xs) (append-nil (f n))
+
+filter-append : (p : ℕ → Bool) (xs : List ℕ) (y : ℕ) → filter p (xs ++ y ∷ []) ≡ filter p xs ++ cond (p y) (y ∷ []) []
+filter-append p [] y = by_case (p y)
+  where
+    by_case : (b : Bool) → cond b (y ∷ []) [] ≡ cond b (y ∷ []) []
+    by_case b = refl
+filter-append p (x ∷ xs) y = by_case (p x) (filter-append p xs y)
+  where
+    by_case : (b : Bool) → filter p (xs ++ y ∷ []) ≡ filter p xs ++ cond (p y) (y ∷ []) [] →
+        cond b (x ∷ filter p (xs ++ y ∷ [])) (filter p (xs ++ y ∷ [])) ≡ cond b (x ∷ filter p xs) (filter p xs) ++ cond (p y) (y ∷ []) []
+    by_case true e = ap (λ l. x ∷ l) e
+    by_case false e = e
+
+filtered : {X : Type 0} (f : ℕ → List X) (b : Bool) (y : ℕ) → flat_map f (cond b (y ∷ []) []) ≡ cond b (f y) []
+filtered f true y = append-nil (f y)
+filtered f false y = refl
+
+pub filter_more : {X : Type 0} (f : ℕ → List X) (p : ℕ → Bool) (n : ℕ) →
+    flat_map f (filter p (range_with_len 0 (n + 1))) ≡ flat_map f (filter p (range_with_len 0 n)) ++ cond (p n) (f n) []
+filter_more f p n =
+    ap (λ l. flat_map f (filter p l)) (range-more n) ∙ ap (flat_map f) (filter-append p (range_with_len 0 n) n)
+    ∙ flat_map-append f (filter p (range_with_len 0 n)) (cond (p n) (n ∷ []) [])
+    ∙ ap (λ l. flat_map f (filter p (range_with_len 0 n)) ++ l) (filtered f (p n) n)
+
+pub tuples_step : (sizes sorts : List ℕ) (i : ℕ) → i < length sorts →
+    tuples (map (λ s. get_or sizes s 0) (drop i sorts)) ≡ get_or sizes (get_or sorts i 0) 0 * tuples (map (λ s. get_or sizes s 0) (drop (i + 1) sorts))
+tuples_step sizes sorts i lt = rw (add-one, drop-cons sorts i 0) refl
+
+-- one sort more at the front
+pub tuples-more : (sizes sorts : List ℕ) (i before now : ℕ) → 0 < i → i ≤ length sorts → before ≡ tuples (map (λ s. get_or sizes s 0) (drop i sorts)) →
+    now ≡ get_or sizes (get_or sorts (i - 1) 0) 0 * before → now ≡ tuples (map (λ s. get_or sizes s 0) (drop (i - 1) sorts))
+tuples-more sizes sorts i before now some le b n =
+    let lt : i - 1 < length sorts = omega arith in
+    let e : i - 1 + 1 ≡ i = omega arith in
+    n ∙ ap (λ m. get_or sizes (get_or sorts (i - 1) 0) 0 * m) (b ∙ sym (ap (λ j. tuples (map (λ s. get_or sizes s 0) (drop j sorts))) e)) ∙ sym (tuples_step sizes sorts (i - 1) lt)
+
+-- one number more that passes, or doesn't
+module _ {X : Type 0} (f : ℕ → List X) (p : ℕ → Bool) (n : ℕ) (start before now : List X) (b : before ≡ start ++ flat_map f (filter p (range_with_len 0 n))) where
+  pub table-added : p n ≡ true → now ≡ before ++ f n → now ≡ start ++ flat_map f (filter p (range_with_len 0 (n + 1)))
+  table-added passes e =
+      e ∙ ap (λ xs. xs ++ f n) b ∙ append_assoc start (flat_map f (filter p (range_with_len 0 n))) (f n)
+      ∙ ap (λ xs. start ++ xs) (sym (filter_more f p n ∙ ap (λ c. flat_map f (filter p (range_with_len 0 n)) ++ cond c (f n) []) passes))
+
+  pub table-left : p n ≡ false → now ≡ before → now ≡ start ++ flat_map f (filter p (range_with_len 0 (n + 1)))
+  table-left fails e =
+      e ∙ b ∙ ap (λ xs. start ++ xs) (sym (filter_more f p n ∙ ap (λ c. flat_map f (filter p (range_with_len 0 n)) ++ cond c (f n) []) fails ∙ append-nil (flat_map f (filter p (range_with_len 0 n)))))
+
+pub copy-added : {X : Type 0} (f : ℕ → List X) (n : ℕ) (start before now : List X) → before ≡ start ++ flat_map f (range_with_len 0 n) → now ≡ before ++ f n → now ≡ start ++ flat_map f (range_with_len 0 (n + 1))
+copy-added f n start before now b e =
+    e ∙ ap (λ xs. xs ++ f n) b ∙ append_assoc start (flat_map f (range_with_len 0 n)) (f n) ∙ ap (λ xs. start ++ xs) (sym (flat_map_more f n))

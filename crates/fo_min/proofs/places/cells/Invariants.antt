@@ -1,0 +1,8 @@
+use Rattle.std.proofs.Common.{◌≡◌, ◌++◌, false, true}
+use Rattle.std.specs.List.{flat_map, range_with_len}
+use Rattle.fo_least.specs.Cells.{cells as cells_of}
+use Rattle.fo_min.proofs.places.cells.Given as goal
+
+-- the copies before this one are done
+abbrev pub invariant-each : goal.invariant-each
+invariant-each l = l.cells ≡ cells_of l.sig l.sizes l.d

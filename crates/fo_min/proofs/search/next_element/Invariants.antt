@@ -1,0 +1,15 @@
+use Rattle.std.proofs.Common.{◌≡◌, ℕ, ◌<◌, [], ◌∷◌, ◌++◌}
+use Rattle.std.specs.List.{All}
+use Rattle.fo_core.specs.Finds.{HasNoWorld}
+use Rattle.fo_least.specs.Asked.{value_trials}
+use Rattle.fo_least.specs.Trials.{trial}
+use Rattle.fo_min.specs.Found.{IsLight}
+use Rattle.fo_min.proofs.search.next_element.Given as goal
+
+-- no world has a value that was tried
+abbrev pub invariant-each : goal.invariant-each
+invariant-each g l = record {
+  limit : g.F.Finder.limit l.f ≡ g.F.Finder.limit l.fn.f;
+  none : (u : ℕ) → u < l.v → HasNoWorld l.sys.sig (trial l.sys.sig l.q l.sizes (l.values ++ u ∷ []));
+  light : All (IsLight l.sys.sig (g.F.Finder.limit l.fn.f)) (value_trials l.sys.sig l.q l.sizes l.values l.v);
+}

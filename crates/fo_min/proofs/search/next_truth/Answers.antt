@@ -1,0 +1,22 @@
+use Rattle.std.proofs.Common.{◌≡◌, ℕ, List, ◌<◌, ◌++◌, ◌∷◌, [], length, refl, subst, arith}
+use Rattle.std.proofs.lemmas.List.Elements.{All-nil}
+use Rattle.fo_least.specs.declared.cell.Cell.{Cell}
+use Rattle.fo_least.specs.Trials.{trial}
+use Rattle.fo_min.specs.Found.{IsLight}
+use Rattle.fo_min.proofs.SearchLemmas.{answer-met, answer-none, answer-over, truth-met, truth-none, value-excess}
+use Rattle.fo_min.proofs.search.next_truth.Goals as goal
+
+pub returns-in-Met-clause-found : goal.returns-in-Met-clause-found
+returns-in-Met-clause-found g c =
+    let met = answer-met c.args.sys.now.sig (g.F.Finder.limit c.args.f.now) (g.F.Finder.limit c.args.f.now) refl (trial c.args.sys.now.sig c.args.q.now c.args.sizes.now (c.args.values.now ++ 0 ∷ [])) c.in_ok-ask_value.field-0 c.in_ok-ask_value.ensures.answer c.in-Met.field-0 c.in-Met.is in
+    truth-met c.args.sys.now.sig c.args.q.now (g.F.Finder.limit c.args.f.now) c.requires.sig c.requires.query c.args.sizes.now c.args.values.now c.requires.sorts (subst (λ (cs : List Cell). length c.args.values.now < length cs) c.requires.cells c.requires.more) c.requires.settled c.requires.relation c.in-Met.field-0 met.0 met.1
+
+pub returns-in-Nothing-clause-found : goal.returns-in-Nothing-clause-found
+returns-in-Nothing-clause-found g c =
+    let none = answer-none c.args.sys.now.sig (g.F.Finder.limit c.args.f.now) (g.F.Finder.limit c.args.f.now) refl (trial c.args.sys.now.sig c.args.q.now c.args.sizes.now (c.args.values.now ++ 0 ∷ [])) c.in_ok-ask_value.field-0 c.in_ok-ask_value.ensures.answer c.in-Nothing.is in
+    truth-none c.args.sys.now.sig c.args.q.now (g.F.Finder.limit c.args.f.now) c.requires.sig c.requires.query c.args.sizes.now c.args.values.now c.requires.sorts (subst (λ (cs : List Cell). length c.args.values.now < length cs) c.requires.cells c.requires.more) c.requires.settled c.requires.relation none.0 none.1
+
+pub returns-clause-found : goal.returns-clause-found
+returns-clause-found g c =
+    value-excess c.args.sys.now.sig c.args.q.now (g.F.Finder.limit c.args.f.now) c.requires.sig c.requires.query c.args.sizes.now c.args.values.now c.requires.sorts (subst (λ (cs : List Cell). length c.args.values.now < length cs) c.requires.cells c.requires.more) c.requires.settled 0 (λ relation. refl) (λ u lt. absurd (omega arith)) (All-nil (IsLight c.args.sys.now.sig (g.F.Finder.limit c.args.f.now))) c.in-Over.excess
+    (answer-over c.args.sys.now.sig (g.F.Finder.limit c.args.f.now) (g.F.Finder.limit c.args.f.now) refl (trial c.args.sys.now.sig c.args.q.now c.args.sizes.now (c.args.values.now ++ 0 ∷ [])) c.in_ok-ask_value.field-0 c.in_ok-ask_value.ensures.answer c.in-Over.excess c.in-Over.is)

@@ -1,0 +1,14 @@
+//! The search for the least of the worlds that meet a query.
+#![tactic(auto)]
+
+mod building;
+mod found;
+mod places;
+mod search;
+mod world;
+
+pub use found::{Excess, Least};
+pub use search::least;
+
+#[cfg(test)]
+mod tests;
