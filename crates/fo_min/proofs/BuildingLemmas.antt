@@ -1,6 +1,5 @@
 -- Trials, entry by entry.
 use Rattle.std.proofs.Common.{◌≡◌, ℕ, ◌+◌, ◌<◌, ◌≤◌, List, [], ◌∷◌, ◌++◌, length, map, sum, take, drop, get_or, Result, Ok, Err, IfOk, refl, sym, ap, subst, ◌∙◌, add-one, append-nil, arith}
-use Rattle.std.specs.Prelude.{slice_index_or}
 use Rattle.std.specs.List.{All, range_with_len}
 use Rattle.std.proofs.Math.Seq.{drop-cons}
 use Rattle.std.proofs.lemmas.List.{drop_all, take_all}
@@ -11,7 +10,6 @@ use Rattle.fo_core.specs.declared.syntax.Formula.{Formula, Eq}
 use Rattle.fo_core.specs.declared.syntax.Formula.TheVariants as F
 use Rattle.fo_core.specs.declared.syntax.Term.{Term, Var}
 use Rattle.fo_least.specs.declared.cell.Cell.{Cell}
-use Rattle.fo_least.specs.Asked.{no_cell}
 use Rattle.fo_least.specs.Cells.{cells}
 use Rattle.fo_least.specs.Trials.{some_over, element_sorts, element, elements, covers, has_value, have_values, trial}
 use Rattle.fo_least.proofs.CellLemmas.{IsCell, cells-all}

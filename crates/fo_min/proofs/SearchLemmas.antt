@@ -1,6 +1,6 @@
 -- How the search for the least world goes on.
-use Rattle.std.proofs.Common.{◌≡◌, ℕ, Bool, true, false, cond, ◌⊎◌, inl, inr, ◌↔◌, ◌+◌, ◌-◌, ◌<◌, ◌≤◌, List, [], ◌∷◌, ◌++◌, length, map, take, get_or, refl, sym, ap, subst, ◌∙◌, arith}
-use Rattle.std.specs.Prelude.{slice_index, slice_index_or}
+use Rattle.std.proofs.Common.{◌≡◌, ℕ, Bool, true, false, ◌⊎◌, inl, inr, ◌+◌, ◌-◌, ◌<◌, ◌≤◌, List, [], ◌∷◌, ◌++◌, length, take, get_or, refl, sym, ap, subst, ◌∙◌, arith}
+use Rattle.std.specs.Prelude.{slice_index}
 use Rattle.std.specs.List.{All, flat_map, range_with_len}
 use Rattle.std.proofs.lemmas.List.{take-append-le, take_all}
 use Rattle.std.proofs.lemmas.List.Elements.{All-nil, All-cons, All-push, All-append, All-from_get_or}
@@ -11,19 +11,18 @@ use Rattle.fo_core.specs.declared.world.World.{World}
 use Rattle.fo_core.specs.Finds.{HasNoWorld}
 use Rattle.fo_core.specs.Queries.{IsQuery, MeetsQuery}
 use Rattle.fo_core.specs.QueryWeight.{query_weight}
-use Rattle.fo_core.specs.SortGraph.{ClaimsEdge, Rises}
 use Rattle.fo_core.specs.Sorted.{IsSig, HasSorts}
-use Rattle.fo_core.specs.Tables.{symbol_at, range_of, Fits}
-use Rattle.fo_least.specs.Asked.{no_cell, HasWorld, is_relation_at, IsNextSize, AreNextSizes, IsNextValue, AreNextValues, tried, size_trials, value_trials, queries_for, least_queries, IsAsked, at_first, for_size, for_value}
+use Rattle.fo_core.specs.Tables.{symbol_at, Fits}
+use Rattle.fo_least.specs.Asked.{HasWorld, is_relation_at, IsNextSize, AreNextSizes, IsNextValue, AreNextValues, tried, size_trials, value_trials, queries_for, IsAsked, at_first, for_size, for_value}
 use Rattle.fo_least.specs.Cells.{cells}
-use Rattle.fo_least.specs.Least.{world_values, IsLeast}
+use Rattle.fo_least.specs.Least.{world_values}
 use Rattle.fo_least.specs.Trials.{trial}
 use Rattle.fo_least.proofs.LeastLemmas.{least_world}
 use Rattle.fo_least.proofs.ListFacts.{all_flat, all_range}
 use Rattle.fo_least.proofs.Naming.{CanTry, MeetsTrial}
 use Rattle.fo_least.proofs.NextLemmas.{push-cases, next_size, can_try_size, next_value, can_try_value, symbol-sorts}
 use Rattle.fo_least.proofs.Settled.{settled-world}
-use Rattle.fo_least.proofs.TrialMeaning.{trial_means, trial_is_query, trial_rises}
+use Rattle.fo_least.proofs.TrialMeaning.{trial_means, trial_is_query}
 use Rattle.fo_min.specs.declared.found.Excess.{Excess}
 use Rattle.fo_min.specs.declared.found.Least.TheVariants.{Model}
 use Rattle.fo_min.specs.declared.search.Answer.{Answer}
@@ -202,9 +201,6 @@ module _ (sig : Sig) (q : Query) (limit : ℕ) (is : IsSig sig) (sorted : IsQuer
       pub truth-none : HasNoWorld sig (trial sig q sizes (values ++ 0 ∷ [])) → IsLight sig limit (trial sig q sizes (values ++ 0 ∷ [])) → IsSettled sig q limit sizes (values ++ 1 ∷ [])
       truth-none none light =
           value-settled 1 (subst (λ b. IsNextValue sig q b sizes values 1) (sym kind) (inr (refl, none))) (one-light (is_relation_at sig q sizes (length values)) 1 kind light)
-
-      pub truth-in-range : 0 < range_at sig q sizes (length values)
-      truth-in-range = subst (λ b. 0 < cond b 2 (slice_index sizes (symbol_at sig (slice_index_or (cells sig sizes q.copies) (length values) no_cell).symbol).result)) (sym kind) (omega arith)
 
     -- a function's trials
     module _ (kind : is_relation_at sig q sizes (length values) ≡ false) where

@@ -1,5 +1,5 @@
 -- A list of values, cut into tables.
-use Rattle.std.specs.Prelude.{◌≡◌, ℕ, zero, suc, ◌<◌, Bool, List, [], ◌∷◌, length, map, sum, take, drop, slice_index, slice_index_or}
+use Rattle.std.specs.Prelude.{ℕ, zero, suc, ◌<◌, Bool, List, [], ◌∷◌, length, map, sum, take, drop, slice_index, slice_index_or}
 use Rattle.std.specs.List.{filter}
 use Rattle.fo_core.specs.declared.syntax.Sig.{Sig}
 use Rattle.fo_core.specs.declared.syntax.Symbol.{Symbol}

@@ -9,7 +9,7 @@ use fo_least::Cell;
 use std::alloc::{AllocError, Global};
 
 /// The element, and the others behind it.
-fn behind(alloc: Global, x: u32, xs: &[u32]) -> Result<Seq<u32>, AllocError>
+fn prefixed(alloc: Global, x: u32, xs: &[u32]) -> Result<Seq<u32>, AllocError>
     ensures { IfOk result (λ ys. ys ≡ x ∷ xs.now) }
 {
     let mut ys = Vec::new(alloc);
@@ -28,7 +28,7 @@ fn add_tuples(
     ensures { OnOk result (tuples.new ≡ tuples.old ++ map (λ xs. x ∷ xs) others.now) }
 {
     'each: for xs in others {
-        tuples.push(behind(alloc, x, xs.as_slice())?)?;
+        tuples.push(prefixed(alloc, x, xs.as_slice())?)?;
     }
     Ok(())
 }

@@ -71,7 +71,7 @@ fn ask<F: Finder>(
 }
 
 /// The numbers, and this one behind them.
-fn with(alloc: Global, numbers: &[u32], n: u32) -> Result<Seq<u32>, AllocError>
+fn extended(alloc: Global, numbers: &[u32], n: u32) -> Result<Seq<u32>, AllocError>
     ensures { IfOk result (λ ms. ms ≡ numbers.now ++ n ∷ []) }
 {
     let mut more = Seq::from_vec(numbers.to_vec(alloc)?);
@@ -97,7 +97,7 @@ fn ask_size<F: Finder>(
     ensures answer { IfOk result (IsQueryAnswer sys.now.sig (F.limit f.old) (trial sys.now.sig q.now (sizes.now ++ n ∷ []) [])) }
 {
     let _sorts = sys.sig.sorts;
-    let tried = with(alloc, sizes, n)?;
+    let tried = extended(alloc, sizes, n)?;
     let p = size_trial(alloc, q, tried.as_slice())?;
     ask(alloc, f, sys, order, p)
 }
@@ -189,7 +189,7 @@ fn ask_value<F: Finder>(
     ensures answer { IfOk result (IsQueryAnswer sys.now.sig (F.limit f.old) (trial sys.now.sig q.now sizes.now (values.now ++ v ∷ []))) }
 {
     let _sorts = sys.sig.sorts;
-    let tried = with(alloc, values, v)?;
+    let tried = extended(alloc, values, v)?;
     let p = value_trial(alloc, &sys.sig, q, sizes, cells, tried.as_slice())?;
     ask(alloc, f, sys, order, p)
 }
@@ -373,8 +373,8 @@ fn least_world<F: Finder>(
 }
 
 /// Looks for the least of the worlds that meet the query: first by how many elements the sorts have,
-/// sort by sort, and then by the values of the tables, in their order (Jian Zhang and Hantao Zhang,
-/// "SEM: a System for Enumerating Models", 1995, enumerate the entries of tables alike).
+/// sort by sort, and then by the values of the tables, in the order in which finders of finite models
+/// enumerate them (Jian Zhang and Hantao Zhang, "SEM: a System for Enumerating Models", 1995).
 ///
 /// Where some world meets the query, it asks which size each sort can have, from 1 on, and then which
 /// value each table entry can have, from 0 on, and settles each before it asks for the next one. So

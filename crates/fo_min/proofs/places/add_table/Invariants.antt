@@ -1,7 +1,4 @@
-use Rattle.std.proofs.Common.{◌≡◌, ◌++◌, List, ℕ, map, take}
-use Rattle.fo_least.specs.declared.cell.Cell.{Cell}
-use Rattle.fo_core.specs.Tables.{symbol_at, arg_sizes}
-use Rattle.fo_least.specs.Cells.{all_tuples}
+use Rattle.std.proofs.Common.{◌≡◌, ◌++◌, map, take}
 use Rattle.fo_min.specs.Search.{cell_at}
 use Rattle.fo_min.proofs.places.add_table.Given as goal
 

@@ -1,5 +1,4 @@
-use Rattle.std.specs.List.{flat_map}
-use Rattle.std.proofs.Common.{◌≡◌, Bool, true, false, ap, sym, ◌∙◌}
+use Rattle.std.proofs.Common.{◌≡◌, true, false, ap, sym, ◌∙◌}
 use Rattle.std.specs.Bool.{beq}
 use Rattle.fo_core.specs.Tables.{symbol_at, is_like, no_symbol}
 use Rattle.fo_least.specs.Cells.{cells_in}

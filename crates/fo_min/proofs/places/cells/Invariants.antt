@@ -1,5 +1,4 @@
-use Rattle.std.proofs.Common.{◌≡◌, ◌++◌, false, true}
-use Rattle.std.specs.List.{flat_map, range_with_len}
+use Rattle.std.proofs.Common.{◌≡◌}
 use Rattle.fo_least.specs.Cells.{cells as cells_of}
 use Rattle.fo_min.proofs.places.cells.Given as goal
 

@@ -1,4 +1,4 @@
-use Rattle.std.proofs.Common.{◌≡◌, List, ℕ, refl, sym, subst, ap, length, []}
+use Rattle.std.proofs.Common.{List, ℕ, refl, sym, subst, ap, length, []}
 use Rattle.fo_core.specs.Queries.{MeetsQuery}
 use Rattle.fo_least.specs.Trials.{trial}
 use Rattle.fo_min.specs.Search.{IsSettled}

@@ -1,4 +1,4 @@
-use Rattle.std.proofs.Common.{◌≡◌, ◌∙◌}
+use Rattle.std.proofs.Common.{◌∙◌}
 use Rattle.fo_min.proofs.SearchLemmas.{sizes-found, values-found, lent-in-range, values-in-range, world-found}
 use Rattle.fo_min.proofs.search.least_world.Goals as goal
 

@@ -1,4 +1,4 @@
-use Rattle.std.proofs.Common.{◌≡◌, ℕ, Bool, true, false, ◌+◌, ◌<◌, ◌++◌, ◌∷◌, [], List, length, ap, sym, subst, ◌∙◌, below_more, arith}
+use Rattle.std.proofs.Common.{ℕ, ◌<◌, ◌++◌, ◌∷◌, [], List, length, subst, ◌∙◌, below_more, arith}
 use Rattle.fo_core.specs.Finds.{HasNoWorld}
 use Rattle.fo_least.specs.declared.cell.Cell.{Cell}
 use Rattle.fo_least.specs.Trials.{trial}

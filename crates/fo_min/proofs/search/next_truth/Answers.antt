@@ -1,4 +1,4 @@
-use Rattle.std.proofs.Common.{◌≡◌, ℕ, List, ◌<◌, ◌++◌, ◌∷◌, [], length, refl, subst, arith}
+use Rattle.std.proofs.Common.{List, ◌<◌, ◌++◌, ◌∷◌, [], length, refl, subst, arith}
 use Rattle.std.proofs.lemmas.List.Elements.{All-nil}
 use Rattle.fo_least.specs.declared.cell.Cell.{Cell}
 use Rattle.fo_least.specs.Trials.{trial}

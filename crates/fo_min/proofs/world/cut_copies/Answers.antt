@@ -1,4 +1,3 @@
-use Rattle.std.proofs.Common.{sym}
 use Rattle.fo_min.proofs.WorldLemmas.{copy-cut}
 use Rattle.fo_min.specs.Cut.{cut_copies as cut_copies_of}
 use Rattle.fo_min.proofs.world.cut_copies.Goals as goal

@@ -1,4 +1,4 @@
-use Rattle.std.proofs.Common.{◌≡◌, ◌<◌, ◌*◌, ◌^◌, ◌-◌, get_or, sym, subst, arith, Option, SomeIff, ℕ}
+use Rattle.std.proofs.Common.{◌<◌, ◌*◌, ◌^◌, ◌-◌, get_or, subst, arith, Option, SomeIff, ℕ}
 use Rattle.fo_min.proofs.ListLemmas.{tuples-more}
 use Rattle.fo_min.proofs.world.tuple_count.Goals as goal
 
