@@ -1,0 +1,12 @@
+-- A finder's answer from the form of a query.
+use Rattle.std.proofs.Common.{ℕ, ◌↔◌, List}
+use Rattle.fo_core.specs.declared.query.Query.{Query}
+use Rattle.fo_core.specs.declared.syntax.Sig.{Sig}
+use Rattle.fo_core.specs.Skolems.{extended}
+use Rattle.fo_core.specs.SortGraph.{FunctionEdge, ClaimsEdge, Rises}
+use Rattle.fo_norm.specs.declared.form.SkolemForm.{SkolemForm}
+
+-- a numbering that rises along the query's graph rises along the form's functions
+pub form_rises : (sig : Sig) (q : Query) (form : SkolemForm) (numbers : List ℕ) → ((a b : ℕ) → FunctionEdge (extended sig form.skolems) a b ↔ ClaimsEdge sig q.claims a b) →
+    Rises (ClaimsEdge sig q.claims) sig.sorts numbers → Rises (FunctionEdge (extended sig form.skolems)) sig.sorts numbers
+form_rises sig q form numbers edges r = record { one_each = r.one_each; rising = λ a b e. r.rising a b ((edges a b).0 e) }

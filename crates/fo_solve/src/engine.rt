@@ -1,0 +1,59 @@
+ghost use Rattle.std.specs.Prelude.{◌≡◌, ◌≤◌};
+
+use crate::search::answer;
+use fo_core::{Finder, Finders, Found, Order, Query, System};
+use std::alloc::{AllocError, Global};
+
+/// A complete finder for queries whose sort graph has an order. It keeps nothing but its limit.
+///
+/// The claims are brought into Skolem form and instantiated by all ground terms, of which there are
+/// finitely many since functions lead from lower sorts to higher ones (Yeting Ge and Leonardo de Moura,
+/// "Complete Instantiation for Quantified Formulas in Satisfiability Modulo Theories", 2009); a search by
+/// clause learning then finds values for the instances, and classes of ground terms that they make equal
+/// are the elements of the world.
+#[derive(Debug, Drop)]
+pub struct Engine {
+    limit: u64,
+    ghost light: { limit ≤ 4000000 },
+}
+
+impl Engine {
+    /// A finder with this limit, which is at most 4,000,000. It takes no memory.
+    pub fn new(limit: u64) -> Engine
+        requires { limit ≤ 4000000 }
+        ensures { result.limit ≡ limit }
+    {
+        Engine { limit }
+    }
+}
+
+impl Finder for Engine {
+    ghost limit = { λ e. e.limit };
+
+    fn find(
+        &mut self,
+        alloc: Global,
+        sys: &System,
+        order: &Order,
+        q: &Query,
+    ) -> Result<Found, AllocError> {
+        answer(alloc, &sys.sig, order, q, self.limit)
+    }
+}
+
+/// What makes engines of one limit, which is at most 4,000,000.
+#[derive(Debug, Drop)]
+pub struct Engines {
+    pub limit: u64,
+    ghost light: { limit ≤ 4000000 },
+}
+
+impl Finders for Engines {
+    type One = Engine;
+
+    ghost limit = { λ e. e.limit };
+
+    fn one(&self, _alloc: Global) -> Result<Engine, AllocError> {
+        Ok(Engine::new(self.limit))
+    }
+}

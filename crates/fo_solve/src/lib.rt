@@ -1,0 +1,13 @@
+//! The finder: Skolem form, ground terms, clauses, and a search for values.
+#![tactic(auto)]
+
+mod engine;
+mod recorded;
+mod same;
+mod search;
+
+pub use engine::{Engine, Engines};
+pub use recorded::{Kept, Recorded};
+
+#[cfg(test)]
+mod tests;
