@@ -1,5 +1,5 @@
 -- The ends of a command by their causes.
-use Rattle.std.proofs.Common.{◌≡◌, ◌⊎◌, ◌<◌, ◌≤◌, ◌∙◌, ◌++◌, ℕ, List, [], ◌∷◌, ap, sym, subst, inl, inr, refl, arith}
+use Rattle.std.proofs.Common.{◌≡◌, ◌⊎◌, ◌≤◌, ◌++◌, ℕ, List, [], ◌∷◌, ap, sym, subst, inl, inr, refl, arith}
 use Rattle.std.specs.Prelude.{codes}
 use Rattle.std.specs.List.{Contains}
 use Rattle.fo_core.specs.declared.names.Names.{Names}
@@ -11,12 +11,11 @@ use Rattle.pyv_parse.specs.declared.fault.ParseFault.{ParseFault}
 use Rattle.pyv_parse.specs.declared.fault.ParseFault.TheVariants as parse
 use Rattle.pyv_meaning.specs.declared.fault.SortFault.{SortFault}
 use Rattle.pyv_meaning.specs.declared.fault.SortFault.TheVariants as sorts
-use Rattle.updr_top.specs.Ends.{End, IsProper, IsAnswered, IsRefused, refusal, usage, cannot_read, is_longer}
+use Rattle.updr_top.specs.Ends.{End, IsProper, refusal, cannot_read, is_longer}
 use Rattle.updr_top.specs.Outside.{Outside, RefusesFile, IsUnread, IsTooLong}
-use Rattle.updr_top.specs.Places.{line_at, column_at}
-use Rattle.updr_top.specs.Judging.{TheReport, NoReport, Judges, is_run, fails_at, holds, wrong_at, not_built}
+use Rattle.updr_top.specs.Judging.{TheReport, NoReport, Judges, is_run, fails_at, holds}
 use Rattle.updr_top.specs.Models.{TellsLex, TellsParse, TellsSort, IsOfForm, IsOfPart, RefusesModel, no_tokens, no_tree, no_meaning, TheModel}
-use Rattle.updr_top.specs.Course.{Command, Usage, Check, modelling, reporting, checking, stages}
+use Rattle.updr_top.specs.Course.{modelling, reporting, checking}
 use Rattle.updr_top.specs.declared.report.RunReport.{RunReport}
 
 pub status_is : (a b : End) → a ≡ b → a.status ≡ b.status
@@ -140,11 +139,7 @@ kind_proper e (seventeen r) = refusal_proper 17 e r (omega arith) (λ h. absurd 
 kind_proper e (thirteen r) = refusal_proper 13 e r (omega arith) (λ h. absurd (omega arith)) (λ h. absurd (omega arith))
 kind_proper e (nineteen r) = refusal_proper 19 e r (omega arith) (λ h. absurd (omega arith)) (λ h. absurd (omega arith))
 
-check_proper : (o : Outside) (m r : List ℕ) (e : End) → CheckEnd o m r e → IsProper e
+pub check_proper : (o : Outside) (m r : List ℕ) (e : End) → CheckEnd o m r e → IsProper e
 check_proper o m r e (unread name _ _ is) = refusal_proper 11 e (record { words = codes "cannot read " ++ name; is = is }) (omega arith) (λ h. absurd (omega arith)) (λ h. absurd (omega arith))
 check_proper o m r e (long name _ _ is) = refusal_proper 11 e (record { words = name ++ codes " is longer than 1048576 bytes"; is = is }) (omega arith) (λ h. absurd (omega arith)) (λ h. absurd (omega arith))
 check_proper o m r e (decided model report _ _ d) = kind_proper e (kind r model report e d)
-
-pub stages_proper : (o : Outside) (c : Command) (e : End) → stages o c e → IsProper e
-stages_proper o Usage e is = refusal_proper 10 e (record { words = codes "usage"; is = is }) (omega arith) (λ h. absurd (omega arith)) (λ h. absurd (omega arith))
-stages_proper o (Check m r) e h = check_proper o m r e (check_end o m r e h)

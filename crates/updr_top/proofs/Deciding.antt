@@ -1,17 +1,16 @@
 -- What a check comes to whose files were read.
-use Rattle.std.proofs.Common.{◌≡◌, ◌⊎◌, ◌↔◌, ◌∙◌, ◌++◌, ℕ, List, [], ap, sym, subst, inl, inr, refl, arith}
+use Rattle.std.proofs.Common.{◌≡◌, ◌⊎◌, ◌↔◌, ◌∙◌, ℕ, List, sym, subst, inl, inr, refl, arith}
 use Rattle.fo_core.specs.declared.names.Names.{Names}
 use Rattle.fo_core.specs.declared.syntax.System.{System}
 use Rattle.fo_core.specs.Runs.{IsViolatingRun}
-use Rattle.pyv_lex.specs.declared.token.Token.{Token}
-use Rattle.pyv_grammar.specs.declared.tree.Model.{Model}
 use Rattle.up_cert.specs.Spots.{IsFirstSpot}
 use Rattle.up_cert.specs.declared.spot.Spot.{Spot}
 use Rattle.updr_top.specs.Ends.{End}
 use Rattle.updr_top.specs.Outside.{Outside}
-use Rattle.updr_top.specs.Course.{Command, Usage, Check, stages}
-use Rattle.updr_top.specs.Judging.{TheReport, NoReport, Judges, is_run, fails_at, not_built, wrong_at}
-use Rattle.updr_top.specs.Models.{TheTokens, NoTokens, TheTree, NoTree, NoMeaning, TheModel, MeansText, RefusesModel, no_tokens, no_tree, no_meaning, IsOfForm, IsOfPart, HasParseFault, IsNotRead, IsLeftOut, HasSortFault}
+use Rattle.updr_top.specs.Course.{stages}
+use Rattle.updr_top.specs.Words.{Command, Check}
+use Rattle.updr_top.specs.Judging.{TheReport, NoReport, is_run, fails_at, not_built, wrong_at}
+use Rattle.updr_top.specs.Models.{TheModel, MeansText, RefusesModel, no_tokens, no_tree, no_meaning, IsOfForm, IsOfPart, HasParseFault, IsNotRead, IsLeftOut, HasSortFault}
 use Rattle.updr_top.specs.Reports.{IsReport}
 use Rattle.updr_top.specs.Table.{Shows, ShowsRun, ShowsNoRun, ShowsNothing, Says, IsDecided}
 use Rattle.updr_top.specs.Telling.{Sunk, IsAnswer, TakesAll}
@@ -22,10 +21,10 @@ use Rattle.updr_top.proofs.Stopping.{one_kind}
 use Rattle.updr_top.proofs.Table.{Outcome, whole, no_memory, cut, outcome}
 
 -- the status is another one, and P is not so
-neither : (a b s : ℕ) (P : Type 0) → s ≡ a → ¬ (a ≡ b) → ¬ P → (s ≡ b) ↔ P
+pub neither : (a b s : ℕ) (P : Type 0) → s ≡ a → ¬ (a ≡ b) → ¬ P → (s ≡ b) ↔ P
 neither a b s P is other none = (λ same. absurd (other (sym is ∙ same)), λ p. absurd (none p))
 
-both : (a s : ℕ) (P : Type 0) → s ≡ a → P → (s ≡ a) ↔ P
+pub both : (a s : ℕ) (P : Type 0) → s ≡ a → P → (s ≡ a) ↔ P
 both a s P is p = (λ _. p, λ _. is)
 
 differ : (a b s : ℕ) → ¬ (a ≡ b) → s ≡ a → s ≡ b → ⊥
@@ -83,7 +82,7 @@ module _ (name model report : List ℕ) (out err : Sunk) (s : ℕ) where
     spot = λ same. absurd (omega arith);
   }
 
-  refused_says : (e : End) → RefusesModel model e → s ≡ e.status → TakesAll err e.line → Says name model report out err s
+  pub refused_says : (e : End) → RefusesModel model e → s ≡ e.status → TakesAll err e.line → Says name model report out err s
   refused_says e (no_tokens n) is line =
       says_form (inl n.none) (λ f. n.none f.tokens f.has) (λ f. n.none f.tokens f.has) (λ sys names t. n.none t.tokens t.has) (is ∙ no_tokens_status model e n.fault n.told) (e, no_tokens n, line)
   refused_says e (no_tree tokens the n) is line = of (parse_end model n.fault e n.told)

@@ -1,5 +1,5 @@
 -- A text has no tokens, no tree, no meaning, or means one system; and one of these alone.
-use Rattle.std.proofs.Common.{◌≡◌, ◌⊎◌, ◌∙◌, ℕ, List, ap, sym, subst, inl, inr, refl}
+use Rattle.std.proofs.Common.{◌≡◌, ◌⊎◌, ℕ, List, subst, inl, inr}
 use Rattle.fo_core.specs.declared.names.Names.{Names}
 use Rattle.fo_core.specs.declared.syntax.System.{System}
 use Rattle.pyv_lex.specs.declared.token.Token.{Token}
@@ -9,9 +9,8 @@ use Rattle.pyv_parse.specs.Faults.{IsFile, IsParseFault}
 use Rattle.pyv_parse.specs.declared.fault.ParseFault.{ParseFault}
 use Rattle.pyv_meaning.specs.Items.{items_of}
 use Rattle.pyv_meaning.specs.Meaning.{MeansSystem, IsFirstFault, ItemsMean, IsFirstOfItems}
-use Rattle.pyv_meaning.specs.declared.fault.SortFault.{SortFault}
 use Rattle.pyv_meaning.proofs.Whole.{excluded}
-use Rattle.updr_top.specs.Models.{HasTokens, TheTokens, TheTree, TheMeaning, TheModel, MeansText, IsOfForm, IsOfPart, HasParseFault, IsNotRead, IsLeftOut, HasSortFault}
+use Rattle.updr_top.specs.Models.{HasTokens, TheTokens, TheTree, TheModel, MeansText, IsOfForm, IsOfPart, HasParseFault, IsNotRead, IsLeftOut, HasSortFault}
 use Rattle.updr_top.proofs.Stopping.{no_tree_beside}
 
 -- ---- where it has these tokens

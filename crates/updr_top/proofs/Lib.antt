@@ -1,10 +1,17 @@
+pub mod Cases
 pub mod Causes
 pub mod Deciding
+pub mod Digits
 pub mod Exclusive
 pub mod Modelling
+pub mod OptionWords
 pub mod Prefixes
 pub mod Reports
 pub mod Spans
+pub mod Statuses
 pub mod Stopping
 pub mod Table
+pub mod VerifyDeciding
+pub mod VerifyEnds
 pub mod Walking
+pub mod Working

@@ -1,5 +1,5 @@
 -- What the stages of a model refuse it by.
-use Rattle.std.proofs.Common.{◌≡◌, ◌<◌, ◌≤◌, ◌^◌, ℕ, List, Result, Ok, Err, length, sym, arith}
+use Rattle.std.proofs.Common.{◌<◌, ◌≤◌, ◌^◌, ℕ, List, Result, Ok, Err, length, sym, arith}
 use Rattle.std.specs.Str.{IsUtf8}
 use Rattle.fo_core.specs.declared.names.Names.{Names}
 use Rattle.fo_core.specs.declared.syntax.System.{System}
@@ -23,7 +23,7 @@ use Rattle.updr_top.specs.Ends.{End}
 use Rattle.updr_top.specs.Stops.{IfRefused, ComesBy}
 use Rattle.updr_top.specs.declared.reading.Stop.{Stop}
 use Rattle.updr_top.specs.declared.reading.Stop.TheVariants.{Refused, Memory}
-use Rattle.updr_top.specs.Models.{RefusesModel, no_tree, no_meaning, HasTokens, TellsLex, NoTokens, TheTokens, TellsParse, NoTree, TheTree, TellsSort, NoMeaning, TheMeaning}
+use Rattle.updr_top.specs.Models.{RefusesModel, no_tree, no_meaning, TellsLex, NoTokens, TheTokens, TellsParse, NoTree, TheTree, TellsSort, NoMeaning, TheMeaning}
 
 -- ---- tokens
 

@@ -1,5 +1,5 @@
 -- The lines around a report's world are read exactly.
-use Rattle.std.proofs.Common.{◌≡◌, ℕ, suc, ◌+◌, ◌-◌, ◌^◌, ◌<◌, ◌≤◌, List, [], ◌∷◌, ◌++◌, length, take, drop, codes, decimal, Bool, true, false, eqb, Result, Ok, Err, refl, sym, ap, subst, ◌∙◌, append_assoc, length-append, arith}
+use Rattle.std.proofs.Common.{◌≡◌, ℕ, suc, ◌+◌, ◌-◌, ◌^◌, ◌<◌, ◌≤◌, List, [], ◌∷◌, ◌++◌, length, take, drop, codes, decimal, true, false, eqb, Result, Ok, Err, refl, sym, ap, subst, ◌∙◌, append_assoc, length-append, arith}
 use Rattle.std.proofs.lemmas.List.{append-nil, append_cancel_left, take_rest}
 use Rattle.std.proofs.lemmas.Bool.{eqb-true, eqb-false}
 use Rattle.fo_core.specs.declared.syntax.Sig.{Sig}
@@ -8,7 +8,7 @@ use Rattle.fo_core.specs.declared.world.World.{World}
 use Rattle.fo_text.specs.Texts.{HasText, text_of, after_space}
 use Rattle.fo_text.specs.Reading.{Read, ◌>>=◌, literal_at, number_at}
 use Rattle.fo_text.proofs.Exact.{Exact, exact_done, exact_after, bind_ok, ok_is}
-use Rattle.fo_text.proofs.Numbers.{Bounds, exact_number}
+use Rattle.fo_text.proofs.Numbers.{exact_number}
 use Rattle.updr_top.specs.Frames.{header_at, footer_at}
 use Rattle.updr_top.specs.Reports.{header, footer, report_text, AreNumbers, IsReport}
 use Rattle.updr_top.specs.declared.report.Numbers.{Numbers}

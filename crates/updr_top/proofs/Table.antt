@@ -1,16 +1,23 @@
 -- The table of statuses follows from the stages.
-use Rattle.std.proofs.Common.{◌≡◌, ◌⊎◌, ◌<◌, ◌≤◌, ◌∙◌, ◌++◌, ℕ, Option, Some, List, [], ◌∷◌, length, ap, sym, subst, inl, inr, refl, arith, IfSome}
+use Rattle.std.proofs.Common.{◌≡◌, ◌⊎◌, ◌<◌, ◌≤◌, ◌∙◌, ℕ, Option, Some, List, [], ◌∷◌, length, ap, sym, subst, inl, inr, refl, arith, IfSome}
 use Rattle.std.specs.Prelude.{codes}
-use Rattle.std.specs.List.{Contains}
+use Rattle.fo_core.specs.declared.names.Names.{Names}
+use Rattle.fo_core.specs.declared.order.Purpose.{Purpose}
+use Rattle.fo_core.specs.declared.order.Purpose.TheVariants as purpose
+use Rattle.fo_core.specs.declared.syntax.System.{System}
 use Rattle.pv_base.specs.Counts.{Rose}
 use Rattle.pv_base.specs.Written.{Appends}
 use Rattle.pv_base.specs.Reading.{IsContent, limit}
-use Rattle.updr_top.specs.Ends.{End, IsProper, IsAnswered, IsRefused, out_of_memory, is_longer}
-use Rattle.updr_top.specs.Outside.{Outside, RefusesFile, IsUnread, IsTooLong}
+use Rattle.updr_top.specs.Ends.{End, IsProper, out_of_memory, is_longer}
+use Rattle.updr_top.specs.Outside.{Outside, RefusesFile}
 use Rattle.updr_top.specs.Telling.{Sunk, Tells, IsAnswer, IsCutShort, TakesAll}
-use Rattle.updr_top.specs.Course.{Command, Usage, Check, checking, stages}
-use Rattle.updr_top.specs.Table.{IsInPlace, ComesExactly, files_of, IsReadFault, HasLong, LongIsRefused, IsWriteFault, LeavesOut, Gains, IsStatus}
-use Rattle.updr_top.proofs.Causes.{status_is, CheckEnd, unread, long, decided, check_end, Kind, zero, six, twelve, thirteen, seventeen, nineteen, kind, refusal_status, stages_proper}
+use Rattle.updr_top.specs.Course.{checking, working, stages}
+use Rattle.updr_top.specs.Verifying.{Verifies}
+use Rattle.updr_top.specs.Words.{Command, Usage, Check, Verify}
+use Rattle.updr_top.specs.Table.{IsInPlace, ComesExactly, files_of, IsReadFault, HasLong, LongIsRefused, IsWriteFault, LeavesOut, Prints, Gains, IsStatus}
+use Rattle.updr_top.proofs.Causes.{status_is, CheckEnd, unread, long, decided, check_end, Kind, zero, six, twelve, thirteen, seventeen, nineteen, kind, refusal_status, refusal_proper, check_proper}
+use Rattle.updr_top.proofs.VerifyEnds.{verify_proper, verify_not_ten, verify_reads, verify_prints, verify_status}
+use Rattle.updr_top.proofs.Statuses.{status_0, status_6, status_10, status_11, status_12, status_13, status_15, status_16, status_17, status_19}
 
 -- which statuses the ends of a check have
 statuses : (e : End) → Kind e → (e.status ≡ 0) ⊎ (e.status ≡ 6) ⊎ (e.status ≡ 12) ⊎ (e.status ≡ 13) ⊎ (e.status ≡ 17) ⊎ (e.status ≡ 19)
@@ -44,6 +51,11 @@ check_not_ten o m r e (unread name _ _ is) ten = let eleven = status_is e _ is i
 check_not_ten o m r e (long name _ _ is) ten = let eleven = status_is e _ is in omega arith
 check_not_ten o m r e (decided model report _ _ d) ten = not_reading e (kind r model report e d) (inl ten)
 
+pub stages_proper : (o : Outside) (c : Command) (e : End) → stages o c e → IsProper e
+stages_proper o Usage e is = refusal_proper 10 e (record { words = codes "usage"; is = is }) (omega arith) (λ h. absurd (omega arith)) (λ h. absurd (omega arith))
+stages_proper o (Check m r) e h = check_proper o m r e (check_end o m r e h)
+stages_proper o (Verify m l) e h = verify_proper l o m e h
+
 -- the status of an answer, by what was meant
 pub data Outcome (stages : End → Type 0) (out err : Sunk) (s : ℕ) : Type 0 where
   whole : (e : End) → stages e → s ≡ e.status → TakesAll out e.text → TakesAll err e.line → Outcome stages out err s
@@ -62,6 +74,9 @@ module _ (o : Outside) (out err : Sunk) (s : ℕ) where
   not_usage : (m r : List ℕ) → ¬ (Check m r ≡ Usage)
   not_usage m r is = cc
 
+  not_usage_either : (m : List ℕ) (l : ℕ) → ¬ (Verify m l ≡ Usage)
+  not_usage_either m l is = cc
+
   pub usage_line : (c : Command) → IsAnswer (stages o c) out err s → ComesExactly 10 (c ≡ Usage) s
   usage_line Usage a = (λ _. refl, λ _. of (outcome _ out err s a))
     where
@@ -73,6 +88,12 @@ module _ (o : Outside) (out err : Sunk) (s : ℕ) where
     where
       of : Outcome (stages o (Check m r)) out err s → ¬ (s ≡ 10)
       of (whole e comes is _ _) ten = check_not_ten o m r e (check_end o m r e comes) (sym is ∙ ten)
+      of (no_memory is _) ten = omega arith
+      of (cut e is _) ten = omega arith
+  usage_line (Verify m l) a = (λ ten. absurd (of (outcome _ out err s a) ten), λ is. absurd (not_usage_either m l is))
+    where
+      of : Outcome (stages o (Verify m l)) out err s → ¬ (s ≡ 10)
+      of (whole e comes is _ _) ten = verify_not_ten l o m e comes (sym is ∙ ten)
       of (no_memory is _) ten = omega arith
       of (cut e is _) ten = omega arith
 
@@ -92,6 +113,12 @@ module _ (o : Outside) (out err : Sunk) (s : ℕ) where
 
       of : Outcome (stages o (Check m r)) out err s → IsReadFault o err (m ∷ r ∷ [])
       of (whole e comes is _ line) = by_end e is line (check_end o m r e comes)
+      of (no_memory is _) = absurd (omega arith)
+      of (cut e is _) = absurd (omega arith)
+  read_line (Verify m l) a eleven = of (outcome _ out err s a)
+    where
+      of : Outcome (stages o (Verify m l)) out err s → IsReadFault o err (m ∷ [])
+      of (whole e comes is _ line) = verify_reads l o m err e comes (sym is ∙ eleven) line
       of (no_memory is _) = absurd (omega arith)
       of (cut e is _) = absurd (omega arith)
 
@@ -125,6 +152,11 @@ module _ (o : Outside) (out err : Sunk) (s : ℕ) where
   long_end m r n e (inl (_, _, inl _)) (inr (_, _, _, _, inr (_, _, _, _, never))) = absurd never
   long_end m r n e (inl (_, _, inr _)) (inr (_, _, _, _, inr (_, _, _, _, never))) = absurd never
 
+  long_work : (purpose : Purpose) (work : System → Names → End → Type 0) (m long_name : List ℕ) (e : End) → working purpose work o m e → HasLong o (m ∷ []) long_name → e ≡ is_longer long_name
+  long_work purpose work m n e (inl (bytes, c, _)) (inl (is, content, told, longer)) = absurd (told_long m content (o.contents m) told longer bytes c)
+  long_work purpose work m n e (inr f) (inl (is, content, told, longer)) = long_refused m content e told longer f ∙ ap is_longer (sym is)
+  long_work purpose work m n e _ (inr (_, _, _, _, never)) = absurd never
+
   pub long_line : (c : Command) → IsAnswer (stages o c) out err s → LongIsRefused o err (files_of c) s
   long_line Usage a n never = absurd never
   long_line (Check m r) a n has = of (outcome _ out err s a)
@@ -132,6 +164,14 @@ module _ (o : Outside) (out err : Sunk) (s : ℕ) where
       of : Outcome (stages o (Check m r)) out err s → ((s ≡ 11) × TakesAll err (is_longer n).line) ⊎ IsInPlace s
       of (whole e comes is _ line) =
           let end = long_end m r n e comes has in
+          inl (is ∙ status_is e _ end, subst (λ (e : End). TakesAll err e.line) end line)
+      of (no_memory is _) = inr (inr is)
+      of (cut e is _) = inr (inl is)
+  long_line (Verify m l) a n has = of (outcome _ out err s a)
+    where
+      of : Outcome (stages o (Verify m l)) out err s → ((s ≡ 11) × TakesAll err (is_longer n).line) ⊎ IsInPlace s
+      of (whole e comes is _ line) =
+          let end = long_work purpose.Verify (λ sys names. Verifies sys names l) m n e comes has in
           inl (is ∙ status_is e _ end, subst (λ (e : End). TakesAll err e.line) end line)
       of (no_memory is _) = inr (inr is)
       of (cut e is _) = inr (inl is)
@@ -180,45 +220,31 @@ module _ (o : Outside) (out err : Sunk) (s : ℕ) where
   kind_of m r e (long name _ _ is) no_eleven = absurd (no_eleven (status_is e _ is))
   kind_of m r e (decided model report _ _ d) no_eleven = kind r model report e d
 
-  kind_holds : (e : End) → Kind e → e.status ≡ 0 → (e.text ≡ codes "holds\n") × (e.line ≡ [])
-  kind_holds e (zero is) none = (ap (λ (e : End). e.text) is, ap (λ (e : End). e.line) is)
-  kind_holds e (six words is _ _) none = absurd (omega arith)
-  kind_holds e (twelve r) none = let s = refusal_status 12 e r in absurd (omega arith)
-  kind_holds e (thirteen r) none = let s = refusal_status 13 e r in absurd (omega arith)
-  kind_holds e (seventeen r) none = let s = refusal_status 17 e r in absurd (omega arith)
-  kind_holds e (nineteen r) none = let s = refusal_status 19 e r in absurd (omega arith)
+  kind_prints : (m r : List ℕ) (e : End) → Kind e → e.status < 10 → Prints (Check m r) e.status e.text × (e.line ≡ [])
+  kind_prints m r e (zero is) low = (inl (status_is e _ is, ap (λ (e : End). e.text) is), ap (λ (e : End). e.line) is)
+  kind_prints m r e (six words is text line) low = (inr (is, words, text), line)
+  kind_prints m r e (twelve t) low = let s = refusal_status 12 e t in absurd (omega arith)
+  kind_prints m r e (thirteen t) low = let s = refusal_status 13 e t in absurd (omega arith)
+  kind_prints m r e (seventeen t) low = let s = refusal_status 17 e t in absurd (omega arith)
+  kind_prints m r e (nineteen t) low = let s = refusal_status 19 e t in absurd (omega arith)
 
-  kind_wrong : (e : End) → Kind e → e.status ≡ 6 → (spot : List ℕ) × (e.text ≡ codes "wrong " ++ spot ++ codes "\n") × (e.line ≡ [])
-  kind_wrong e (zero is) same = let s = status_is e _ is in absurd (omega arith)
-  kind_wrong e (six words is text line) same = (words, text, line)
-  kind_wrong e (twelve r) same = let s = refusal_status 12 e r in absurd (omega arith)
-  kind_wrong e (thirteen r) same = let s = refusal_status 13 e r in absurd (omega arith)
-  kind_wrong e (seventeen r) same = let s = refusal_status 17 e r in absurd (omega arith)
-  kind_wrong e (nineteen r) same = let s = refusal_status 19 e r in absurd (omega arith)
+  stages_print : (c : Command) (e : End) → stages o c e → e.status < 10 → Prints c e.status e.text × (e.line ≡ [])
+  stages_print Usage e comes low = let ten = status_is e _ comes in absurd (omega arith)
+  stages_print (Check m r) e comes low = kind_prints m r e (kind_of m r e (check_end o m r e comes) (λ eleven. absurd (omega arith))) low
+  stages_print (Verify m l) e comes low = verify_prints l o m e comes low
 
-  pub gains_line : (c : Command) → IsAnswer (stages o c) out err s → Gains out err s
-  gains_line c a = record { holds = holds c (outcome _ out err s a); wrong = wrong c (outcome _ out err s a); refused = refused (outcome _ out err s a) }
+  pub gains_line : (c : Command) → IsAnswer (stages o c) out err s → Gains c out err s
+  gains_line c a = record { answered = answered (outcome _ out err s a); refused = refused (outcome _ out err s a) }
     where
-      holds : (c : Command) → Outcome (stages o c) out err s → s ≡ 0 → TakesAll out (codes "holds\n") × TakesAll err []
-      holds c (no_memory is _) none = absurd (omega arith)
-      holds c (cut e is _) none = absurd (omega arith)
-      holds Usage (whole e comes is _ _) none = let ten = status_is e _ comes in absurd (omega arith)
-      holds (Check m r) (whole e comes is text line) none =
-          let k = kind_of m r e (check_end o m r e comes) (λ eleven. absurd (omega arith)) in
-          let h = kind_holds e k (sym is ∙ none) in
-          (subst (TakesAll out) h.0 text, subst (TakesAll err) h.1 line)
-
-      wrong : (c : Command) → Outcome (stages o c) out err s → s ≡ 6 → (spot : List ℕ) × TakesAll out (codes "wrong " ++ spot ++ codes "\n") × TakesAll err []
-      wrong c (no_memory is _) same = absurd (omega arith)
-      wrong c (cut e is _) same = absurd (omega arith)
-      wrong Usage (whole e comes is _ _) same = let ten = status_is e _ comes in absurd (omega arith)
-      wrong (Check m r) (whole e comes is text line) same =
-          let k = kind_of m r e (check_end o m r e comes) (λ eleven. absurd (omega arith)) in
-          let h = kind_wrong e k (sym is ∙ same) in
-          (h.0, subst (TakesAll out) h.1 text, subst (TakesAll err) h.2 line)
+      answered : Outcome (stages o c) out err s → s < 10 → (text : List ℕ) × Prints c s text × TakesAll out text × TakesAll err []
+      answered (no_memory is _) low = absurd (omega arith)
+      answered (cut e is _) low = absurd (omega arith)
+      answered (whole e comes is text line) low =
+          let p = stages_print c e comes (omega (arith, is, low)) in
+          (e.text, subst (λ (n : ℕ). Prints c n e.text) (sym is) p.0, text, subst (TakesAll err) p.1 line)
 
       by_kind : (e : End) → s ≡ e.status → TakesAll out e.text → IsProper e → 10 ≤ s → TakesAll out []
-      by_kind e is text (inl answered) high = let low = answered.low in absurd (omega arith)
+      by_kind e is text (inl answer) high = let low = answer.low in absurd (omega arith)
       by_kind e is text (inr refusal) high = subst (TakesAll out) refusal.nothing text
 
       refused : Outcome (stages o c) out err s → 10 ≤ s → (s ≡ 15 → ⊥) → TakesAll out []
@@ -226,24 +252,28 @@ module _ (o : Outside) (out err : Sunk) (s : ℕ) where
       refused (cut e is _) high no_fault = absurd (no_fault is)
       refused (whole e comes is text _) high no_fault = by_kind e is text (stages_proper o c e comes) high
 
+  kind_status : (e : End) → (e.status ≡ 0) ⊎ (e.status ≡ 6) ⊎ (e.status ≡ 12) ⊎ (e.status ≡ 13) ⊎ (e.status ≡ 17) ⊎ (e.status ≡ 19) → IsStatus e.status
+  kind_status e (inl a) = subst IsStatus (sym a) status_0
+  kind_status e (inr (inl a)) = subst IsStatus (sym a) status_6
+  kind_status e (inr (inr (inl a))) = subst IsStatus (sym a) status_12
+  kind_status e (inr (inr (inr (inl a)))) = subst IsStatus (sym a) status_13
+  kind_status e (inr (inr (inr (inr (inl a))))) = subst IsStatus (sym a) status_17
+  kind_status e (inr (inr (inr (inr (inr a))))) = subst IsStatus (sym a) status_19
+
+  check_status : (m r : List ℕ) (e : End) → CheckEnd o m r e → IsStatus e.status
+  check_status m r e (unread name _ _ is) = subst IsStatus (sym (status_is e _ is)) status_11
+  check_status m r e (long name _ _ is) = subst IsStatus (sym (status_is e _ is)) status_11
+  check_status m r e (decided model report _ _ d) = kind_status e (statuses e (kind r model report e d))
+
+  stages_status : (c : Command) (e : End) → stages o c e → IsStatus e.status
+  stages_status Usage e comes = subst IsStatus (sym (status_is e _ comes)) status_10
+  stages_status (Check m r) e comes = check_status m r e (check_end o m r e comes)
+  stages_status (Verify m l) e comes = verify_status l o m e comes
+
   pub status_line : (c : Command) → IsAnswer (stages o c) out err s → IsStatus s
-  status_line c a = of c (outcome _ out err s a)
+  status_line c a = of (outcome _ out err s a)
     where
-      of_kind : (e : End) → s ≡ e.status → (e.status ≡ 0) ⊎ (e.status ≡ 6) ⊎ (e.status ≡ 12) ⊎ (e.status ≡ 13) ⊎ (e.status ≡ 17) ⊎ (e.status ≡ 19) → IsStatus s
-      of_kind e is (inl a) = inl (is ∙ a)
-      of_kind e is (inr (inl a)) = inr (inl (is ∙ a))
-      of_kind e is (inr (inr (inl a))) = inr (inr (inr (inr (inl (is ∙ a)))))
-      of_kind e is (inr (inr (inr (inl a)))) = inr (inr (inr (inr (inr (inl (is ∙ a))))))
-      of_kind e is (inr (inr (inr (inr (inl a))))) = inr (inr (inr (inr (inr (inr (inr (inr (inl (is ∙ a)))))))))
-      of_kind e is (inr (inr (inr (inr (inr a))))) = inr (inr (inr (inr (inr (inr (inr (inr (inr (is ∙ a)))))))))
-
-      of_end : (m r : List ℕ) (e : End) → s ≡ e.status → CheckEnd o m r e → IsStatus s
-      of_end m r e is (unread name _ _ end) = inr (inr (inr (inl (is ∙ status_is e _ end))))
-      of_end m r e is (long name _ _ end) = inr (inr (inr (inl (is ∙ status_is e _ end))))
-      of_end m r e is (decided model report _ _ d) = of_kind e is (statuses e (kind r model report e d))
-
-      of : (c : Command) → Outcome (stages o c) out err s → IsStatus s
-      of c (no_memory is _) = inr (inr (inr (inr (inr (inr (inr (inl is)))))))
-      of c (cut e is _) = inr (inr (inr (inr (inr (inr (inl is))))))
-      of Usage (whole e comes is _ _) = inr (inr (inl (is ∙ status_is e _ comes)))
-      of (Check m r) (whole e comes is _ _) = of_end m r e is (check_end o m r e comes)
+      of : Outcome (stages o c) out err s → IsStatus s
+      of (no_memory is _) = subst IsStatus (sym is) status_16
+      of (cut e is _) = subst IsStatus (sym is) status_15
+      of (whole e comes is _ _) = subst IsStatus (sym is) (stages_status c e comes)

@@ -1,5 +1,5 @@
 -- Lines and columns, byte by byte.
-use Rattle.std.proofs.Common.{◌≡◌, ℕ, ◌+◌, ◌-◌, ◌≤◌, ◌<◌, Bool, true, false, eqb, if◌then◌else◌, List, [], ◌∷◌, length, take, drop, get_or, refl, sym, ap, ◌∙◌, arith}
+use Rattle.std.proofs.Common.{◌≡◌, ℕ, ◌+◌, ◌-◌, ◌≤◌, Bool, true, false, eqb, if◌then◌else◌, List, ◌∷◌, drop, refl, sym, ap, ◌∙◌, arith}
 use Rattle.updr_top.specs.Places.{feeds, behind_feed}
 
 -- how far the walk over these bytes is

@@ -1,5 +1,5 @@
 -- Reading the lines around a report's world from left to right.
-use Rattle.std.specs.Prelude.{◌≡◌, ℕ, ◌^◌, ◌-◌, List, codes, Ok}
+use Rattle.std.specs.Prelude.{ℕ, ◌^◌, ◌-◌, List, codes, Ok}
 use Rattle.fo_text.specs.Reading.{Read, ◌>>=◌, literal_at, number_at}
 use Rattle.updr_top.specs.declared.report.Numbers.{Numbers}
 

@@ -8,5 +8,9 @@ pub mod Places
 pub mod Reports
 pub mod Stages
 pub mod Stops
+pub mod Stratifying
 pub mod Table
 pub mod Telling
+pub mod Verifying
+pub mod Words
+pub mod Working

@@ -1,5 +1,5 @@
 -- The table of statuses: when each comes.
-use Rattle.std.specs.Prelude.{◌≡◌, ◌⊎◌, ◌↔◌, ◌<◌, ◌≤◌, ℕ, List, [], ◌∷◌, ◌++◌, Some, length, codes, ⊤}
+use Rattle.std.specs.Prelude.{◌≡◌, ◌⊎◌, ◌↔◌, ◌<◌, ◌≤◌, ℕ, List, [], ◌∷◌, ◌++◌, Some, length, codes, decimal}
 use Rattle.std.specs.List.{Contains}
 use Rattle.fo_core.specs.declared.names.Names.{Names}
 use Rattle.fo_core.specs.declared.syntax.System.{System}
@@ -16,8 +16,7 @@ use Rattle.updr_top.specs.Models.{MeansText, RefusesModel, IsNotRead, IsLeftOut,
 use Rattle.updr_top.specs.Reports.{IsReport}
 use Rattle.updr_top.specs.Telling.{Sunk, TakesAll}
 use Rattle.updr_top.specs.declared.report.RunReport.{RunReport}
-use Rattle.updr_top.specs.Course.{Command}
-use Rattle.updr_top.specs.Course.Command.{Usage, Check}
+use Rattle.updr_top.specs.Words.{Command, Usage, Check, Verify}
 
 -- a failed put or want of memory stands in place of what was meant
 abbrev pub IsInPlace : ℕ → Type 0
@@ -31,6 +30,7 @@ ComesExactly this P status = (status ≡ this → P) × (P → (status ≡ this)
 abbrev pub files_of : Command → List (List ℕ)
 files_of Usage = []
 files_of (Check model report) = model ∷ report ∷ []
+files_of (Verify model most) = model ∷ []
 
 -- a named file was refused by this cause, and `err` has the line that tells it
 abbrev pub IsReadFault : Outside → Sunk → List (List ℕ) → Type 0
@@ -59,16 +59,29 @@ pub record IsWriteFault (out err : Sunk) (status : ℕ) : Type 0 where
 abbrev pub LeavesOut : Sunk → ℕ → Type 0
 LeavesOut out status = status ≡ 16 → Appends out.written [] out.written_after
 
--- what `out` and `err` gain by each status: a judged run prints its one line and says nothing, a
--- refusal prints nothing
-pub record Gains (out err : Sunk) (status : ℕ) : Type 0 where
-  pub holds : status ≡ 0 → TakesAll out (codes "holds\n") × TakesAll err []
-  pub wrong : status ≡ 6 → (spot : List ℕ) × TakesAll out (codes "wrong " ++ spot ++ codes "\n") × TakesAll err []
+-- what a command prints with a status below 10: with which statuses, and how the texts begin
+abbrev pub Prints : Command → ℕ → List ℕ → Type 0
+Prints Usage status text = ⊥
+Prints (Check model report) status text =
+    ((status ≡ 0) × (text ≡ codes "holds\n"))
+    ⊎ ((status ≡ 6) × (spot : List ℕ) × (text ≡ codes "wrong " ++ spot ++ codes "\n"))
+Prints (Verify model most) status text =
+    ((status ≡ 0) × (text ≡ codes "inductive\n"))
+    ⊎ ((status ≡ 7) × (rest : List ℕ) × (text ≡ codes "not inductive " ++ rest))
+    ⊎ ((status ≡ 5) × (weight : ℕ) × (most < weight) × (text ≡ codes "over verify " ++ decimal weight ++ codes "\n"))
+
+-- what `out` and `err` gain by each status: an answer prints its text and says nothing, a refusal
+-- prints nothing
+pub record Gains (c : Command) (out err : Sunk) (status : ℕ) : Type 0 where
+  pub answered : status < 10 → (text : List ℕ) × Prints c status text × TakesAll out text × TakesAll err []
   pub refused : 10 ≤ status → (status ≡ 15 → ⊥) → TakesAll out []
 
 -- every call ends in one of these
+abbrev pub statuses : List ℕ
+statuses = 0 ∷ 5 ∷ 6 ∷ 7 ∷ 10 ∷ 11 ∷ 12 ∷ 13 ∷ 14 ∷ 15 ∷ 16 ∷ 17 ∷ 19 ∷ []
+
 abbrev pub IsStatus : ℕ → Type 0
-IsStatus s = (s ≡ 0) ⊎ (s ≡ 6) ⊎ (s ≡ 10) ⊎ (s ≡ 11) ⊎ (s ≡ 12) ⊎ (s ≡ 13) ⊎ (s ≡ 15) ⊎ (s ≡ 16) ⊎ (s ≡ 17) ⊎ (s ≡ 19)
+IsStatus = Contains statuses
 
 -- ---- a check whose files were read
 

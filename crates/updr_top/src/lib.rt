@@ -8,7 +8,10 @@ mod reading;
 mod report;
 mod report_text;
 mod run;
+mod stratifying;
 mod told;
+mod verifying;
+mod words;
 
 pub use report::{Numbers, RunReport, Unread};
 pub use report_text::{read_report, write_report};

@@ -228,10 +228,115 @@ fn reports_of_other_forms(rt: HostRuntime) -> Result<(), Fail> {
     Ok(())
 }
 
+const HELD_ONCE: &[u8] = b"sort node
+mutable relation held(node)
+init !held(N)
+transition grab(n: node)
+  modifies held
+  (forall M. !held(M)) & (new(held(N)) <-> held(N) | N = n)
+safety [one] held(N1) & held(N2) -> N1 = N2
+";
+
+const LOOPING: &[u8] = b"sort node
+immutable function f(node): node
+";
+
+/// Five constants, of which two are equal: false only where there are five elements or more.
+const FIVE: &[u8] = b"sort node
+immutable constant a: node
+immutable constant b: node
+immutable constant c: node
+immutable constant d: node
+immutable constant e: node
+safety !distinct(a, b, c, d, e)
+";
+
+/// The status and the texts of `out` and `err` of these words, where `A` has this content.
+fn served(
+    alloc: Global,
+    model: &[u8],
+    words: &[&str],
+) -> Result<(u8, MemSink, MemSink), AllocError> {
+    let mut files = GoodFiles::new(alloc)?;
+    files.add("A", model)?;
+    let mut out = MemSink::new(alloc, 1000)?;
+    let mut err = MemSink::new(alloc, 100)?;
+    let words = words_of(alloc, words)?;
+    let ending = run_plain(alloc, words, &mut files, &mut out, &mut err);
+    Ok((ending.status, out, err))
+}
+
+#[test]
+fn inductive_properties_are_verified(rt: HostRuntime) -> Result<(), Fail> {
+    let alloc = rt.alloc();
+    let (status, out, err) = served(alloc, HELD_ONCE, &["verify", "A"])?;
+    assert_eq!(rt; status, 0);
+    assert_eq!(rt; out.bytes(), b"inductive\n".as_slice());
+    assert_eq!(rt; err.bytes(), b"".as_slice());
+    let (status, out, err) = served(alloc, HELD_ONCE, &["verify", "A", "--weight", "1"])?;
+    assert_eq!(rt; status, 5);
+    assert_eq!(rt; out.bytes(), b"over verify 28\n".as_slice());
+    assert_eq!(rt; err.bytes(), b"".as_slice());
+    Ok(())
+}
+
+/// The first line of the text, its line feed counted.
+fn first_line(text: &[u8]) -> &[u8] {
+    match text.iter().position(|byte| *byte == b'\n') {
+        Some(at) => text.split_at(at + 1).0,
+        None => text,
+    }
+}
+
+/// Whether the text has a line of these words.
+fn has_line(text: &[u8], line: &[u8]) -> bool {
+    let mut lines = text.split(|byte| *byte == b'\n');
+    lines.any(|other| other == line)
+}
+
+#[test]
+fn properties_that_fail_are_told(rt: HostRuntime) -> Result<(), Fail> {
+    let alloc = rt.alloc();
+    let (status, out, err) = served(alloc, MODEL, &["verify", "A"])?;
+    assert_eq!(rt; status, 7);
+    let line = b"not inductive step grab property 0\n";
+    assert_eq!(rt; first_line(out.bytes()), line.as_slice());
+    assert!(rt; has_line(out.bytes(), b"world 2"));
+    assert_eq!(rt; err.bytes(), b"".as_slice());
+    let (status, out, _) = served(alloc, FIVE, &["verify", "A"])?;
+    assert_eq!(rt; status, 7);
+    let line = b"not inductive init property 0\n";
+    assert_eq!(rt; first_line(out.bytes()), line.as_slice());
+    assert!(rt; has_line(out.bytes(), b"sort node 5"));
+    Ok(())
+}
+
+#[test]
+fn cycles_of_sorts_are_told(rt: HostRuntime) -> Result<(), Fail> {
+    let alloc = rt.alloc();
+    let (status, out, err) = served(alloc, LOOPING, &["verify", "A"])?;
+    assert_eq!(rt; status, 14);
+    let line = b"updr: not stratified: node -> node\n";
+    assert_eq!(rt; err.bytes(), line.as_slice());
+    assert_eq!(rt; out.bytes(), b"".as_slice());
+    Ok(())
+}
+
 #[test]
 fn words_that_are_no_command(rt: HostRuntime) -> Result<(), Fail> {
     let alloc = rt.alloc();
-    for words in [&[] as &[&str], &["check", "A"], &["prove", "A", "R"]] {
+    let none: [&[&str]; 9] = [
+        &[],
+        &["check", "A"],
+        &["prove", "A", "R"],
+        &["verify"],
+        &["verify", "A", "--weight"],
+        &["verify", "A", "--weight", "0"],
+        &["verify", "A", "--weight", "4000001"],
+        &["verify", "A", "--weight", "1", "--weight", "1"],
+        &["verify", "A", "--depth", "1"],
+    ];
+    for words in none {
         let words = words_of(alloc, words)?;
         let mut err = MemSink::new(alloc, 100)?;
         let files = &mut GoodFiles::new(alloc)?;

@@ -42,6 +42,20 @@ impl Told {
         })
     }
 
+    /// A refusal with these words, as bytes.
+    pub fn refusal_of(alloc: Global, status: u8, words: &[u8]) -> Result<Told, AllocError>
+        ensures { IfOk result (λ t. t ≡ refusal status words.now) }
+    {
+        let mut line = b"updr: ".to_vec(alloc)?;
+        line.extend_from_slice(words)?;
+        line.push(b'\n')?;
+        Ok(Told {
+            status,
+            text: Vec::new(alloc),
+            line,
+        })
+    }
+
     /// A refusal that names a place of a text.
     pub fn refusal_at(
         alloc: Global,

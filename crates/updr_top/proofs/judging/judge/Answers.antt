@@ -1,6 +1,6 @@
 use Rattle.std.proofs.Common.{ℕ, List, ap, ◌∙◌}
 use Rattle.updr_top.specs.Ends.{printing}
-use Rattle.updr_top.specs.Judging.{Judges, fails_at}
+use Rattle.updr_top.specs.Judging.{fails_at}
 use Rattle.updr_top.proofs.judging.judge.Goals as goal
 
 pub returns : goal.returns

@@ -1,7 +1,6 @@
 use Rattle.std.proofs.Common.{ℕ, List, Option, inl, inr, subst}
 use Rattle.std.proofs.lemmas.Result.{err_from_is_err_and}
 use Rattle.pv_base.specs.Reading.{IsContent}
-use Rattle.updr_top.specs.Course.{checking}
 use Rattle.updr_top.specs.Judging.{NoReport}
 use Rattle.updr_top.specs.Models.{RefusesModel}
 use Rattle.pyv_sorts.specs.declared.model.Elaborated.{Elaborated}

@@ -1,10 +1,10 @@
 -- What was put goes on by a line, or by a part of one.
-use Rattle.std.proofs.Common.{rules, arith, ◌≡◌, ◌++◌, ◌∙◌, ap₂, List, ℕ, OnErr}
+use Rattle.std.proofs.Common.{rules, ◌≡◌, ◌++◌, ◌∙◌, ap₂, List, ℕ}
 use Rattle.std.proofs.lemmas.List.{take-append-drop}
 use Rattle.pv_base.specs.Written.{Appends, AppendsPrefix}
 use Rattle.pv_base.specs.Counts.{Rose}
 use Rattle.updr_top.specs.Telling.{sunk, TakesPart}
-use Rattle.updr_top.proofs.Prefixes.{IsDone, more_done, part_done, on_err}
+use Rattle.updr_top.proofs.Prefixes.{more_done, part_done, on_err}
 use Rattle.updr_top.proofs.told.put_lines.Goals as goal
 
 pub each-preserved : goal.each-preserved

@@ -1,0 +1,24 @@
+-- How a system that isn't stratified is refused.
+use Rattle.std.specs.Prelude.{◌≡◌, ℕ, List, [], ◌∷◌, ◌++◌, slice_index_or, flat_map, codes}
+use Rattle.fo_core.specs.declared.names.Names.{Names}
+use Rattle.fo_core.specs.declared.order.Purpose.{Purpose}
+use Rattle.fo_core.specs.declared.syntax.System.{System}
+use Rattle.pyv_strat.specs.Refusal.{IsUnstratified}
+use Rattle.updr_top.specs.Ends.{End, refusal}
+
+abbrev pub sort_name : Names → ℕ → List ℕ
+sort_name names s = slice_index_or names.sorts s []
+
+-- the names of the sorts, with arrows between them
+abbrev pub cycle_words : Names → List ℕ → List ℕ
+cycle_words names [] = []
+cycle_words names (s ∷ ss) = sort_name names s ++ flat_map (λ t. codes " -> " ++ sort_name names t) ss
+
+abbrev pub not_stratified : Names → List ℕ → End
+not_stratified names cycle = refusal 14 (codes "not stratified: " ++ cycle_words names cycle)
+
+-- the system isn't stratified for the purpose, and the end tells the first of its shortest cycles
+pub record NoOrder (sys : System) (names : Names) (purpose : Purpose) (end : End) : Type 0 where
+  pub cycle : List ℕ
+  pub is : IsUnstratified sys purpose cycle
+  pub told : end ≡ not_stratified names cycle
