@@ -1,3 +1,5 @@
+pub mod BmcDeciding
+pub mod BmcEnds
 pub mod Cases
 pub mod Causes
 pub mod Deciding
@@ -7,6 +9,7 @@ pub mod Modelling
 pub mod OptionWords
 pub mod Prefixes
 pub mod Reports
+pub mod Runs
 pub mod Spans
 pub mod Statuses
 pub mod Stopping

@@ -12,10 +12,12 @@ use Rattle.updr_top.specs.Ends.{End, IsProper, out_of_memory, is_longer}
 use Rattle.updr_top.specs.Outside.{Outside, RefusesFile}
 use Rattle.updr_top.specs.Telling.{Sunk, Tells, IsAnswer, IsCutShort, TakesAll}
 use Rattle.updr_top.specs.Course.{checking, working, stages}
+use Rattle.updr_top.specs.Unrolling.{Unrolls}
 use Rattle.updr_top.specs.Verifying.{Verifies}
-use Rattle.updr_top.specs.Words.{Command, Usage, Check, Verify}
+use Rattle.updr_top.specs.Words.{Command, Usage, Check, Verify, Bmc}
 use Rattle.updr_top.specs.Table.{IsInPlace, ComesExactly, files_of, IsReadFault, HasLong, LongIsRefused, IsWriteFault, LeavesOut, Prints, Gains, IsStatus}
 use Rattle.updr_top.proofs.Causes.{status_is, CheckEnd, unread, long, decided, check_end, Kind, zero, six, twelve, thirteen, seventeen, nineteen, kind, refusal_status, refusal_proper, check_proper}
+use Rattle.updr_top.proofs.BmcEnds.{bmc_proper, bmc_not_ten, bmc_reads, bmc_prints, bmc_status}
 use Rattle.updr_top.proofs.VerifyEnds.{verify_proper, verify_not_ten, verify_reads, verify_prints, verify_status}
 use Rattle.updr_top.proofs.Statuses.{status_0, status_6, status_10, status_11, status_12, status_13, status_15, status_16, status_17, status_19}
 
@@ -55,6 +57,7 @@ pub stages_proper : (o : Outside) (c : Command) (e : End) → stages o c e → I
 stages_proper o Usage e is = refusal_proper 10 e (record { words = codes "usage"; is = is }) (omega arith) (λ h. absurd (omega arith)) (λ h. absurd (omega arith))
 stages_proper o (Check m r) e h = check_proper o m r e (check_end o m r e h)
 stages_proper o (Verify m l) e h = verify_proper l o m e h
+stages_proper o (Bmc m d l) e h = bmc_proper d l o m e h
 
 -- the status of an answer, by what was meant
 pub data Outcome (stages : End → Type 0) (out err : Sunk) (s : ℕ) : Type 0 where
@@ -77,6 +80,9 @@ module _ (o : Outside) (out err : Sunk) (s : ℕ) where
   not_usage_either : (m : List ℕ) (l : ℕ) → ¬ (Verify m l ≡ Usage)
   not_usage_either m l is = cc
 
+  not_usage_bmc : (m : List ℕ) (d l : ℕ) → ¬ (Bmc m d l ≡ Usage)
+  not_usage_bmc m d l is = cc
+
   pub usage_line : (c : Command) → IsAnswer (stages o c) out err s → ComesExactly 10 (c ≡ Usage) s
   usage_line Usage a = (λ _. refl, λ _. of (outcome _ out err s a))
     where
@@ -94,6 +100,12 @@ module _ (o : Outside) (out err : Sunk) (s : ℕ) where
     where
       of : Outcome (stages o (Verify m l)) out err s → ¬ (s ≡ 10)
       of (whole e comes is _ _) ten = verify_not_ten l o m e comes (sym is ∙ ten)
+      of (no_memory is _) ten = omega arith
+      of (cut e is _) ten = omega arith
+  usage_line (Bmc m d l) a = (λ ten. absurd (of (outcome _ out err s a) ten), λ is. absurd (not_usage_bmc m d l is))
+    where
+      of : Outcome (stages o (Bmc m d l)) out err s → ¬ (s ≡ 10)
+      of (whole e comes is _ _) ten = bmc_not_ten d l o m e comes (sym is ∙ ten)
       of (no_memory is _) ten = omega arith
       of (cut e is _) ten = omega arith
 
@@ -119,6 +131,12 @@ module _ (o : Outside) (out err : Sunk) (s : ℕ) where
     where
       of : Outcome (stages o (Verify m l)) out err s → IsReadFault o err (m ∷ [])
       of (whole e comes is _ line) = verify_reads l o m err e comes (sym is ∙ eleven) line
+      of (no_memory is _) = absurd (omega arith)
+      of (cut e is _) = absurd (omega arith)
+  read_line (Bmc m d l) a eleven = of (outcome _ out err s a)
+    where
+      of : Outcome (stages o (Bmc m d l)) out err s → IsReadFault o err (m ∷ [])
+      of (whole e comes is _ line) = bmc_reads d l o m err e comes (sym is ∙ eleven) line
       of (no_memory is _) = absurd (omega arith)
       of (cut e is _) = absurd (omega arith)
 
@@ -172,6 +190,14 @@ module _ (o : Outside) (out err : Sunk) (s : ℕ) where
       of : Outcome (stages o (Verify m l)) out err s → ((s ≡ 11) × TakesAll err (is_longer n).line) ⊎ IsInPlace s
       of (whole e comes is _ line) =
           let end = long_work purpose.Verify (λ sys names. Verifies sys names l) m n e comes has in
+          inl (is ∙ status_is e _ end, subst (λ (e : End). TakesAll err e.line) end line)
+      of (no_memory is _) = inr (inr is)
+      of (cut e is _) = inr (inl is)
+  long_line (Bmc m d l) a n has = of (outcome _ out err s a)
+    where
+      of : Outcome (stages o (Bmc m d l)) out err s → ((s ≡ 11) × TakesAll err (is_longer n).line) ⊎ IsInPlace s
+      of (whole e comes is _ line) =
+          let end = long_work purpose.Infer (λ sys names. Unrolls sys names l d) m n e comes has in
           inl (is ∙ status_is e _ end, subst (λ (e : End). TakesAll err e.line) end line)
       of (no_memory is _) = inr (inr is)
       of (cut e is _) = inr (inl is)
@@ -232,6 +258,7 @@ module _ (o : Outside) (out err : Sunk) (s : ℕ) where
   stages_print Usage e comes low = let ten = status_is e _ comes in absurd (omega arith)
   stages_print (Check m r) e comes low = kind_prints m r e (kind_of m r e (check_end o m r e comes) (λ eleven. absurd (omega arith))) low
   stages_print (Verify m l) e comes low = verify_prints l o m e comes low
+  stages_print (Bmc m d l) e comes low = bmc_prints d l o m e comes low
 
   pub gains_line : (c : Command) → IsAnswer (stages o c) out err s → Gains c out err s
   gains_line c a = record { answered = answered (outcome _ out err s a); refused = refused (outcome _ out err s a) }
@@ -269,6 +296,7 @@ module _ (o : Outside) (out err : Sunk) (s : ℕ) where
   stages_status Usage e comes = subst IsStatus (sym (status_is e _ comes)) status_10
   stages_status (Check m r) e comes = check_status m r e (check_end o m r e comes)
   stages_status (Verify m l) e comes = verify_status l o m e comes
+  stages_status (Bmc m d l) e comes = bmc_status d l o m e comes
 
   pub status_line : (c : Command) → IsAnswer (stages o c) out err s → IsStatus s
   status_line c a = of (outcome _ out err s a)

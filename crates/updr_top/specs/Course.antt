@@ -12,7 +12,8 @@ use Rattle.updr_top.specs.Models.{RefusesModel, TheModel}
 use Rattle.updr_top.specs.Judging.{TheReport, NoReport, Judges}
 use Rattle.updr_top.specs.Stratifying.{NoOrder}
 use Rattle.updr_top.specs.Verifying.{Verifies}
-use Rattle.updr_top.specs.Words.{Command, Usage, Check, Verify}
+use Rattle.updr_top.specs.Unrolling.{Unrolls}
+use Rattle.updr_top.specs.Words.{Command, Usage, Check, Verify, Bmc}
 use Rattle.updr_top.specs.declared.report.RunReport.{RunReport}
 
 -- the stage that reads a model: it goes on with the system that the text means, or the text is refused
@@ -48,7 +49,12 @@ working purpose work o model =
 abbrev pub verifying : ℕ → Outside → List ℕ → End → Type 0
 verifying limit = working purpose.Verify (λ sys names. Verifies sys names limit)
 
+-- the stages of `bmc`
+abbrev pub unrolling : ℕ → ℕ → Outside → List ℕ → End → Type 0
+unrolling depth limit = working purpose.Infer (λ sys names. Unrolls sys names limit depth)
+
 abbrev pub stages : Outside → Command → End → Type 0
 stages o Usage = ends usage
 stages o (Check model report) = checking o model report
 stages o (Verify model limit) = verifying limit o model
+stages o (Bmc model depth limit) = unrolling depth limit o model

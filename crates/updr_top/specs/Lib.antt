@@ -11,6 +11,7 @@ pub mod Stops
 pub mod Stratifying
 pub mod Table
 pub mod Telling
+pub mod Unrolling
 pub mod Verifying
 pub mod Words
 pub mod Working

@@ -7,16 +7,18 @@ use Rattle.fo_core.specs.Runs.{IsViolatingRun}
 use Rattle.pv_base.specs.Reading.{IsContent, limit}
 use Rattle.pv_base.specs.Counts.{Rose}
 use Rattle.pv_base.specs.Written.{Appends}
+use Rattle.up_claims.specs.declared.kind.Kind.TheVariants.{Unroll}
 use Rattle.updr_top.specs.Ends.{End, cannot_read, is_longer}
 use Rattle.updr_top.specs.Outside.{Outside, IsUnread, IsTooLong}
 use Rattle.up_cert.specs.Spots.{IsFirstSpot}
 use Rattle.up_cert.specs.declared.spot.Spot.{Spot}
 use Rattle.updr_top.specs.Judging.{not_built, wrong_at}
 use Rattle.updr_top.specs.Models.{MeansText, RefusesModel, IsNotRead, IsLeftOut, HasSortFault}
-use Rattle.updr_top.specs.Reports.{IsReport}
+use Rattle.updr_top.specs.Reports.{IsReport, header}
 use Rattle.updr_top.specs.Telling.{Sunk, TakesAll}
 use Rattle.updr_top.specs.declared.report.RunReport.{RunReport}
-use Rattle.updr_top.specs.Words.{Command, Usage, Check, Verify}
+use Rattle.updr_top.specs.Unrolling.{no_run, over_query}
+use Rattle.updr_top.specs.Words.{Command, Usage, Check, Verify, Bmc}
 
 -- a failed put or want of memory stands in place of what was meant
 abbrev pub IsInPlace : ℕ → Type 0
@@ -31,6 +33,7 @@ abbrev pub files_of : Command → List (List ℕ)
 files_of Usage = []
 files_of (Check model report) = model ∷ report ∷ []
 files_of (Verify model most) = model ∷ []
+files_of (Bmc model depth most) = model ∷ []
 
 -- a named file was refused by this cause, and `err` has the line that tells it
 abbrev pub IsReadFault : Outside → Sunk → List (List ℕ) → Type 0
@@ -69,6 +72,10 @@ Prints (Verify model most) status text =
     ((status ≡ 0) × (text ≡ codes "inductive\n"))
     ⊎ ((status ≡ 7) × (rest : List ℕ) × (text ≡ codes "not inductive " ++ rest))
     ⊎ ((status ≡ 5) × (weight : ℕ) × (most < weight) × (text ≡ codes "over verify " ++ decimal weight ++ codes "\n"))
+Prints (Bmc model depth most) status text =
+    ((status ≡ 1) × (steps : ℕ) × (steps ≤ depth) × (rest : List ℕ) × (text ≡ header steps ++ rest))
+    ⊎ ((status ≡ 0) × (text ≡ (no_run depth).text))
+    ⊎ ((status ≡ 5) × (weight : ℕ) × (most < weight) × (text ≡ (over_query Unroll weight).text))
 
 -- what `out` and `err` gain by each status: an answer prints its text and says nothing, a refusal
 -- prints nothing
@@ -78,7 +85,7 @@ pub record Gains (c : Command) (out err : Sunk) (status : ℕ) : Type 0 where
 
 -- every call ends in one of these
 abbrev pub statuses : List ℕ
-statuses = 0 ∷ 5 ∷ 6 ∷ 7 ∷ 10 ∷ 11 ∷ 12 ∷ 13 ∷ 14 ∷ 15 ∷ 16 ∷ 17 ∷ 19 ∷ []
+statuses = 0 ∷ 1 ∷ 5 ∷ 6 ∷ 7 ∷ 10 ∷ 11 ∷ 12 ∷ 13 ∷ 14 ∷ 15 ∷ 16 ∷ 17 ∷ 19 ∷ []
 
 abbrev pub IsStatus : ℕ → Type 0
 IsStatus = Contains statuses

@@ -12,6 +12,8 @@ pub data Command : Type 0 where
   Check : List ℕ → List ℕ → Command
   -- the file of a model, and the most that a query may weigh
   Verify : List ℕ → ℕ → Command
+  -- the file of a model, the most steps of a run, and the most that a query may weigh
+  Bmc : List ℕ → ℕ → ℕ → Command
 
 -- ---- numbers
 
@@ -62,17 +64,27 @@ check_words model _ = Usage
 abbrev pub weight_of : Options → ℕ
 weight_of o = unwrap_or o.weight 4000000
 
+-- at most 10 steps where no other number is given
+abbrev pub depth_of : Options → ℕ
+depth_of o = unwrap_or o.depth 10
+
 abbrev pub verify_options : List ℕ → Option Options → Command
 verify_options model None = Usage
 verify_options model (Some o) = if is_none o.depth then Verify model (weight_of o) else Usage
 
--- `check MODEL REPORT`; `verify MODEL` with at most `--weight W`; else no command
+abbrev pub bmc_options : List ℕ → Option Options → Command
+bmc_options model None = Usage
+bmc_options model (Some o) = Bmc model (depth_of o) (weight_of o)
+
+-- `check MODEL REPORT`; `verify MODEL` with at most `--weight W`; `bmc MODEL` with at most `--depth D` and
+-- `--weight W`; else no command
 abbrev pub command_of : List (List ℕ) → Command
 command_of [] = Usage
 command_of (command ∷ []) = Usage
 command_of (command ∷ model ∷ rest) =
     if bytes_eq command (codes "check") then check_words model rest
-    else (if bytes_eq command (codes "verify") then verify_options model (options_behind no_options rest) else Usage)
+    else (if bytes_eq command (codes "verify") then verify_options model (options_behind no_options rest)
+    else (if bytes_eq command (codes "bmc") then bmc_options model (options_behind no_options rest) else Usage))
 
 -- ---- what the code reads
 
@@ -80,12 +92,14 @@ abbrev pub meant : code.Command → Command
 meant read.Usage = Usage
 meant (read.Check model report) = Check model.now report.now
 meant (read.Verify model weight) = Verify model.now weight
+meant (read.Bmc model depth weight) = Bmc model.now depth weight
 
 -- its numbers lie in their ranges
 abbrev pub IsInRange : Command → Type 0
 IsInRange Usage = ⊤
 IsInRange (Check model report) = ⊤
 IsInRange (Verify model weight) = weight ≤ 4000000
+IsInRange (Bmc model depth weight) = (depth ≤ 32) × (weight ≤ 4000000)
 
 -- what is given lies in its range
 pub record AreInRange (o : Options) : Type 0 where

@@ -9,6 +9,9 @@ use Rattle.fo_core.specs.declared.world.World.{World}
 use Rattle.fo_core.specs.SortGraph.{IsStratified}
 use Rattle.pv_base.specs.Reading.{IsContent}
 use Rattle.pyv_strat.specs.Refusal.{IsUnstratified}
+use Rattle.fo_min.specs.declared.found.Excess.{Excess}
+use Rattle.up_unroll.specs.Unrolling.{IsUnrollExcess}
+use Rattle.up_claims.specs.declared.kind.Kind.TheVariants.{Unroll}
 use Rattle.up_claims.specs.Claims.{properties}
 use Rattle.up_claims.specs.Inductive.{IsInductive}
 use Rattle.up_claims.specs.VerifyQueries.{Case, verify_cases, verify_weight}
@@ -18,6 +21,7 @@ use Rattle.updr_top.specs.Outside.{Outside}
 use Rattle.updr_top.specs.Stratifying.{not_stratified}
 use Rattle.updr_top.specs.Table.{IsInPlace}
 use Rattle.updr_top.specs.Telling.{Sunk, TakesAll}
+use Rattle.updr_top.specs.Unrolling.{FindsRun, FindsNoRun, unsafe_run, over_query}
 use Rattle.updr_top.specs.Verifying.{IsLight, FailsFirst, IsOver, not_inductive, over_verify}
 
 -- the text means a system, as P says of it and its names
@@ -64,6 +68,29 @@ pub record VerifySays (limit : ℕ) (model : List ℕ) (out err : Sunk) (status 
   -- the first case that fails is printed, with a world that shows it; or the weight of the first query above the limit
   pub failing_text : status ≡ 7 → (c : Case) × (w : World) × Means (λ sys names. FailsFirst sys limit (verify_cases sys) c w × TakesAll out (not_inductive sys names c.step c.property w).text) model
   pub over_text : status ≡ 5 → (c : Case) × Means (λ sys names. IsOver sys limit (verify_cases sys) c × TakesAll out (over_verify (verify_weight sys c)).text) model
+
+-- ---- `bmc`
+
+-- a violating run is found, or that none has at most so many steps, and no query that is asked is above the limit
+abbrev pub HasLeastRun : ℕ → ℕ → System → Type 0
+HasLeastRun depth limit sys = (w : World) × FindsRun sys limit depth w
+
+abbrev pub HasNoRun : ℕ → ℕ → System → Type 0
+HasNoRun depth limit sys = FindsNoRun sys limit depth
+
+-- a query that is asked, in their order, is above the limit
+abbrev pub IsAbove : ℕ → ℕ → System → Type 0
+IsAbove depth limit sys = (x : Excess) × IsUnrollExcess sys limit depth x
+
+-- The status is the one that the model's text defines, and is told.
+pub record BmcSays (depth limit : ℕ) (model : List ℕ) (out err : Sunk) (status : ℕ) : Type 0 where
+  pub refused : RefusesText purpose.Infer model err status
+  pub run : (status ≡ 1) ↔ MeansStratified purpose.Infer (HasLeastRun depth limit) model
+  pub no_run : (status ≡ 0) ↔ MeansStratified purpose.Infer (HasNoRun depth limit) model
+  pub over : (status ≡ 5) ↔ MeansStratified purpose.Infer (IsAbove depth limit) model
+  -- the least of the shortest runs is reported; or the weight of the first query above the limit
+  pub run_text : status ≡ 1 → (w : World) × Means (λ sys names. FindsRun sys limit depth w × TakesAll out (unsafe_run sys names w).text) model
+  pub over_text : status ≡ 5 → (x : Excess) × Means (λ sys names. IsUnrollExcess sys limit depth x × TakesAll out (over_query Unroll x.weight).text) model
 
 -- What a command on one model comes to: its file can't be read, a put failed, memory was wanting; or it was read, and
 -- its content decides.

@@ -10,6 +10,7 @@ mod report_text;
 mod run;
 mod stratifying;
 mod told;
+mod unrolling;
 mod verifying;
 mod words;
 

@@ -2,18 +2,19 @@ ghost use Rattle.std.specs.Prelude.{◌≡◌, ◌≤◌, ℕ, List, map, string
 ghost use Rattle.updr_top.specs.Ends.{usage};
 ghost use Rattle.updr_top.specs.Outside.{outside};
 ghost use Rattle.updr_top.specs.Stages.{ends};
-ghost use Rattle.updr_top.specs.Course.{stages, checking, verifying};
-ghost use Rattle.updr_top.specs.Words.{command_of, Usage, Check, Verify};
+ghost use Rattle.updr_top.specs.Course.{stages, checking, verifying, unrolling};
+ghost use Rattle.updr_top.specs.Words.{command_of, Usage, Check, Verify, Bmc};
 ghost use Rattle.updr_top.specs.Table.{ComesExactly, IsReadFault, LongIsRefused, IsWriteFault, LeavesOut, Gains, IsStatus, IsDecided, files_of};
 ghost use Rattle.updr_top.specs.Stops.{ComesBy};
 ghost use Rattle.updr_top.specs.Telling.{sunk, IsAnswer};
-ghost use Rattle.updr_top.specs.Working.{IsDecidedBy, VerifySays};
+ghost use Rattle.updr_top.specs.Working.{IsDecidedBy, VerifySays, BmcSays};
 
 use crate::judging::{judge, read_run};
 use crate::model::read_model;
 use crate::reading::{Stop, read_file};
 use crate::stratifying::stratified;
 use crate::told::{Ending, Told, put_out_of_memory};
+use crate::unrolling::unrolled;
 use crate::verifying::verified;
 use crate::words::{Command, read_command};
 use fo_core::{Finder, Purpose};
@@ -27,10 +28,13 @@ use std::alloc::Global;
 /// really is one. `verify MODEL` asks whether the model's safeties and invariants together are
 /// inductive (Robert W. Floyd, "Assigning Meanings to Programs", 1967): one query for each property
 /// at the start, and then one for each transition and each property. `--weight W` behind it, from 1
-/// to 4,000,000, is the most that a query may weigh; without it that is 4,000,000.
+/// to 4,000,000, is the most that a query may weigh; without it that is 4,000,000. `bmc MODEL` looks
+/// for a violating run by bounded model checking, of at most so many steps as `--depth D` says, from
+/// 0 to 32, without it 10; of those of fewest steps it reports the least, by the sizes of the sorts
+/// and then the values of the tables. It takes `--weight W` too.
 ///
-/// The status is 0 with `holds` or `inductive` on `out`; 5 with `over verify` and the weight of the
-/// first query above the limit, where none before it has a world; 6 with `wrong` and the first spot
+/// The status is 0 with `holds`, `inductive`, or the report that no run was found on `out`; 1 with
+/// the report of a violating run; 5 with `over` and the weight of the first query above the limit; 6 with `wrong` and the first spot
 /// that fails; 7 with `not inductive`, the first property that fails, and a world that shows it; 10
 /// where the words are no command; 11 where a file can't be read or is too long; 12 where the model
 /// has no tokens or no tree, 17 where it has none since a part of the language is left out, and 13
@@ -57,6 +61,7 @@ pub fn run_plain<F: Files, O: Sink, E: Sink>(
     ensures write_fault { IsWriteFault (sunk O.written O.faults out.old out.new) (sunk E.written E.faults err.old err.new) result.status }
     ensures check { (model report : List ℕ) → command_of (map string_bytes words.items) ≡ Check model report → IsDecided (outside F.contents F.faults F.refused files.old files.new) model report (sunk O.written O.faults out.old out.new) (sunk E.written E.faults err.old err.new) result.status }
     ensures verify { (model : List ℕ) (limit : ℕ) → command_of (map string_bytes words.items) ≡ Verify model limit → IsDecidedBy (λ bytes. VerifySays limit bytes (sunk O.written O.faults out.old out.new) (sunk E.written E.faults err.old err.new)) (outside F.contents F.faults F.refused files.old files.new) model result.status }
+    ensures bmc { (model : List ℕ) (depth limit : ℕ) → command_of (map string_bytes words.items) ≡ Bmc model depth limit → IsDecidedBy (λ bytes. BmcSays depth limit bytes (sunk O.written O.faults out.old out.new) (sunk E.written E.faults err.old err.new)) (outside F.contents F.faults F.refused files.old files.new) model result.status }
     ensures memory { LeavesOut (sunk O.written O.faults out.old out.new) result.status }
     ensures gains { Gains (command_of (map string_bytes words.items)) (sunk O.written O.faults out.old out.new) (sunk E.written E.faults err.old err.new) result.status }
 {
@@ -88,6 +93,7 @@ fn serve<F: Files>(alloc: Global, words: &[String], files: &mut F) -> Result<Tol
         Command::Usage => usage(alloc),
         Command::Check(model, report) => check(alloc, model, report, files),
         Command::Verify(model, weight) => verify(alloc, model, weight, files),
+        Command::Bmc(model, depth, weight) => bmc(alloc, model, depth, weight, files),
     }
 }
 
@@ -124,4 +130,22 @@ fn verify<F: Files>(alloc: Global, model: &str, weight: u32, files: &mut F) -> R
     let order = stratified(alloc, &meant.sys, &meant.names, Purpose::Verify)?;
     let mut finder = finder(weight);
     Ok(verified(alloc, &meant.sys, &meant.names, &order, &mut finder)?)
+}
+
+fn bmc<F: Files>(
+    alloc: Global,
+    model: &str,
+    depth: u32,
+    weight: u32,
+    files: &mut F,
+) -> Result<Told, Stop>
+    requires depth { depth ≤ 32 }
+    requires weight { weight ≤ 4000000 }
+    ensures { ComesBy (unrolling depth weight (outside F.contents F.faults F.refused files.old files.new) model.now) result }
+{
+    let bytes = read_file(alloc, files, model)?;
+    let meant = read_model(alloc, &bytes)?;
+    let order = stratified(alloc, &meant.sys, &meant.names, Purpose::Infer)?;
+    let mut finder = finder(weight);
+    Ok(unrolled(alloc, &meant.sys, &meant.names, &order, depth, &mut finder)?)
 }

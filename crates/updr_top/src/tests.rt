@@ -322,10 +322,60 @@ fn cycles_of_sorts_are_told(rt: HostRuntime) -> Result<(), Fail> {
     Ok(())
 }
 
+const COUNTING: &[u8] = b"mutable relation b0
+mutable relation b1
+init !b0
+init !b1
+transition tick()
+  modifies b0, b1
+  & (new(b0) <-> !b0)
+  & (new(b1) <-> (b1 <-> !b0))
+safety !(b0 & b1)
+";
+
+/// Answers these words over this model with this status and this text.
+fn answers(
+    rt: &impl Abort,
+    alloc: Global,
+    model: &[u8],
+    words: &[&str],
+    status: u8,
+    text: &[u8],
+) -> Result<(), AllocError> {
+    let (answered, out, err) = served(alloc, model, words)?;
+    assert_eq!(rt; answered, status);
+    assert_eq!(rt; out.bytes(), text);
+    assert_eq!(rt; err.bytes(), b"".as_slice());
+    Ok(())
+}
+
+#[test]
+fn violating_runs_are_reported(rt: HostRuntime) -> Result<(), Fail> {
+    let alloc = rt.alloc();
+    let none = b"report 1\nverdict norun 1\nnumbers 0 0 0\ndone\n";
+    answers(&rt, alloc, MODEL, &["bmc", "A", "--depth", "1"], 0, none)?;
+    answers(&rt, alloc, MODEL, &["bmc", "A", "--depth", "2"], 1, RUN)?;
+    let words = &["bmc", "A", "--weight", "10", "--depth", "2"];
+    let over = b"report 1\nverdict over unroll 29\nnumbers 0 0 0\ndone\n";
+    answers(&rt, alloc, MODEL, words, 5, over)?;
+    Ok(())
+}
+
+#[test]
+fn reported_runs_hold(rt: HostRuntime) -> Result<(), Fail> {
+    let alloc = rt.alloc();
+    let (status, found, _) = served(alloc, COUNTING, &["bmc", "A", "--depth", "3"])?;
+    assert_eq!(rt; status, 1);
+    let (status, out, _) = checked(alloc, COUNTING, found.bytes())?;
+    assert_eq!(rt; status, 0);
+    assert_eq!(rt; out.bytes(), b"holds\n".as_slice());
+    Ok(())
+}
+
 #[test]
 fn words_that_are_no_command(rt: HostRuntime) -> Result<(), Fail> {
     let alloc = rt.alloc();
-    let none: [&[&str]; 9] = [
+    let none: [&[&str]; 11] = [
         &[],
         &["check", "A"],
         &["prove", "A", "R"],
@@ -335,6 +385,8 @@ fn words_that_are_no_command(rt: HostRuntime) -> Result<(), Fail> {
         &["verify", "A", "--weight", "4000001"],
         &["verify", "A", "--weight", "1", "--weight", "1"],
         &["verify", "A", "--depth", "1"],
+        &["bmc", "A", "--depth", "33"],
+        &["bmc", "A", "--depth", "1", "--depth", "1"],
     ];
     for words in none {
         let words = words_of(alloc, words)?;

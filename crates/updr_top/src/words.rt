@@ -1,7 +1,7 @@
 //! The words of a command line.
 
 ghost use Rattle.std.specs.Prelude.{◌≡◌, ◌≤◌, map, length, string_bytes, IfSome};
-ghost use Rattle.updr_top.specs.Words.{digits_behind, number_of, with_depth, with_weight, with_option, options_behind, no_options, check_words, verify_options, command_of, meant, IsInRange, AreInRange};
+ghost use Rattle.updr_top.specs.Words.{digits_behind, number_of, with_depth, with_weight, with_option, options_behind, no_options, check_words, verify_options, bmc_options, command_of, meant, IsInRange, AreInRange};
 
 /// A command as its words give it.
 pub enum Command<'a> {
@@ -11,6 +11,8 @@ pub enum Command<'a> {
     Check(&'a str, &'a str),
     /// The file of a model, and the most that a query may weigh.
     Verify(&'a str, u32),
+    /// The file of a model, the most steps of a run, and the most that a query may weigh.
+    Bmc(&'a str, u32, u32),
 }
 
 /// What is given behind a model.
@@ -22,6 +24,9 @@ pub struct Options {
 
 /// The most steps of a run that is looked for.
 const MOST_DEPTH: u32 = 32;
+
+/// The most steps where no other number is given.
+const USUAL_DEPTH: u32 = 10;
 
 /// The most that a query may weigh, also where no other number is given.
 const MOST_WEIGHT: u32 = 4_000_000;
@@ -145,6 +150,20 @@ fn verify_command<'a>(model: &'a str, rest: &[String]) -> Command<'a>
     }
 }
 
+fn bmc_command<'a>(model: &'a str, rest: &[String]) -> Command<'a>
+    ensures is { meant result ≡ bmc_options model.now (options_behind no_options (map string_bytes rest.now)) }
+    ensures ranged { IsInRange (meant result) }
+{
+    match read_options(rest) {
+        Some(Options { depth, weight }) => Command::Bmc(
+            model,
+            depth.unwrap_or(USUAL_DEPTH),
+            weight.unwrap_or(MOST_WEIGHT),
+        ),
+        None => Command::Usage,
+    }
+}
+
 /// The command that these words are.
 pub fn read_command(words: &[String]) -> Command<'_>
     ensures is { meant result ≡ command_of (map string_bytes words.now) }
@@ -159,6 +178,9 @@ pub fn read_command(words: &[String]) -> Command<'_>
     }
     if command == "verify" {
         return verify_command(model, rest);
+    }
+    if command == "bmc" {
+        return bmc_command(model, rest);
     }
     Command::Usage
 }

@@ -1,5 +1,6 @@
 use Rattle.updr_top.proofs.Deciding.{check_line}
 use Rattle.updr_top.proofs.Table.{read_line, status_line, gains_line}
+use Rattle.updr_top.proofs.BmcDeciding.{bmc_line}
 use Rattle.updr_top.proofs.VerifyDeciding.{verify_line}
 use Rattle.updr_top.proofs.run.run_plain.Goals as goal
 
@@ -17,3 +18,6 @@ returns-clause-status g c = status_line _ _ _ _ _ (rw c.deref.ensures.value at c
 
 pub returns-clause-gains : goal.returns-clause-gains
 returns-clause-gains g c = gains_line _ _ _ _ _ (rw c.deref.ensures.value at c.answer.ensures)
+
+pub returns-clause-bmc : goal.returns-clause-bmc
+returns-clause-bmc g c = λ m d l is. bmc_line _ _ _ _ _ (rw c.deref.ensures.value at c.answer.ensures) m d l is
