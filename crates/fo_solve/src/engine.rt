@@ -21,7 +21,7 @@ impl Engine {
     /// A finder with this limit, which is at most 4,000,000. It takes no memory.
     pub fn new(limit: u64) -> Engine
         requires { limit ≤ 4000000 }
-        ensures { result.limit ≡ limit }
+        ensures { ⟦<Engine as Finder>⟧.limit result ≡ limit }
     {
         Engine { limit }
     }
@@ -44,6 +44,7 @@ impl Finder for Engine {
 /// What makes engines of one limit, which is at most 4,000,000.
 #[derive(Debug, Drop)]
 pub struct Engines {
+    /// The limit of each engine that it makes.
     pub limit: u64,
     ghost light: { limit ≤ 4000000 },
 }

@@ -15,7 +15,9 @@ use std::marker::Model;
 /// A query with its answer.
 #[derive(Debug, Drop)]
 pub struct Kept {
+    /// The query that was asked.
     pub query: Query,
+    /// What an engine answered.
     pub answer: Found,
 }
 
@@ -59,7 +61,7 @@ fn copied(alloc: Global, found: &Found) -> Result<Found, AllocError>
 
 impl Recorded {
     /// A finder for this system with this limit, which is at most 4,000,000. It keeps a copy of the system, and no
-    /// answers yet.
+    /// answers yet. The one error is want of memory.
     pub fn new(alloc: Global, sys: &System, limit: u64) -> Result<Recorded, AllocError>
         requires { limit ≤ 4000000 }
         ensures { IfOk result (λ r. r ≡ record { sys = sys.now; limit = limit; kept = []; given = 0 }) }
