@@ -34,14 +34,15 @@ use std::alloc::Global;
 /// and then the values of the tables. It takes `--weight W` too.
 ///
 /// The status is 0 with `holds`, `inductive`, or the report that no run was found on `out`; 1 with
-/// the report of a violating run; 5 with `over` and the weight of the first query above the limit; 6 with `wrong` and the first spot
-/// that fails; 7 with `not inductive`, the first property that fails, and a world that shows it; 10
-/// where the words are no command; 11 where a file can't be read or is too long; 12 where the model
-/// has no tokens or no tree, 17 where it has none since a part of the language is left out, and 13
-/// where it means no system, each with the place; 14 where the system isn't stratified for what is
-/// asked, with the first of the shortest cycles of its sort graph; 15 where a put failed; 16 where
-/// memory was wanting; 19 where the report isn't one of a violating run. Each from 10 on puts its
-/// line on `err` and nothing on `out`, but for a prefix of the text with 15. It waits for nobody.
+/// the report of a violating run; 5 with `over`, or the report that says so, and the weight of the
+/// first query above the limit; 6 with `wrong` and the first spot that fails; 7 with `not inductive`,
+/// the first property that fails, and a world that shows it; 10 where the words are no command; 11
+/// where a file can't be read or is too long; 12 where the model has no tokens or no tree, 17 where
+/// it has none since a part of the language is left out, and 13 where it means no system, each with
+/// the place; 14 where the system isn't stratified for what is asked, with the first of the shortest
+/// cycles of its sort graph; 15 where a put failed; 16 where memory was wanting; 19 where the report
+/// isn't one of a violating run. Each from 10 on puts its line on `err` and nothing on `out`, but for
+/// a prefix of the text with 15. It waits for nobody.
 #[tactic(auto, using(crate::proofs::Table::usage_line, crate::proofs::Table::read_line, crate::proofs::Table::long_line, crate::proofs::Table::write_line, crate::proofs::Table::memory_line, crate::proofs::Table::gains_line, crate::proofs::Table::status_line, crate::proofs::Deciding::check_line))]
 pub fn run_plain<F: Files, O: Sink, E: Sink>(
     alloc: Global,
