@@ -13,8 +13,9 @@ run() {
 run verify examples/lock-server.pyv
 run verify examples/grab.pyv
 run verify examples/leaders.pyv
-for depth in 0 3 5; do
+for depth in 0 3 5 10; do
     run bmc examples/lock-server.pyv --depth "$depth"
 done
 run bmc examples/grab.pyv
+run bmc examples/lock-server-forgets.pyv
 run bmc examples/leaders.pyv
