@@ -5,10 +5,12 @@ set -u
 cd "$(dirname "$0")/.." || exit 1
 program=$PWD/crates/updr/out/updr
 [ -x "$program" ] || { echo "build crates/updr first" >&2; exit 1; }
+figures=$(mktemp)
+output=$(mktemp)
+trap 'rm -f "$figures" "$output"' EXIT
 run() {
-    /usr/bin/time -f "%e s, %M KB" -o /tmp/updr-models.$$ "$program" "$@" > /tmp/updr-models-out.$$ 2>&1
-    echo "updr $*: status $?, $(tail -n 1 /tmp/updr-models.$$), $(head -n 2 /tmp/updr-models-out.$$ | tr '\n' ' ')"
-    rm -f /tmp/updr-models.$$ /tmp/updr-models-out.$$
+    /usr/bin/time -f "%e s, %M KB" -o "$figures" "$program" "$@" > "$output" 2>&1
+    echo "updr $*: status $?, $(tail -n 1 "$figures"), $(head -n 2 "$output" | tr '\n' ' ')"
 }
 run verify examples/lock-server.pyv
 run verify examples/grab.pyv
