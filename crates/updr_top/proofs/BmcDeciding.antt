@@ -12,8 +12,8 @@ use Rattle.updr_top.specs.Models.{TheModel}
 use Rattle.updr_top.specs.Telling.{Sunk, IsAnswer, TakesAll}
 use Rattle.updr_top.specs.Unrolling.{Unrolls, runs, runs_never, is_above}
 use Rattle.updr_top.specs.Words.{Command, Bmc}
-use Rattle.updr_top.specs.Working.{MeansStratified, RefusesText, HasLeastRun, HasNoRun, IsAbove, BmcSays, IsDecidedBy}
-use Rattle.updr_top.proofs.Runs.{run_or_none, none_or_excess, run_or_excess}
+use Rattle.updr_top.specs.Working.{MeansStratified, RefusesText, HasRun, HasNoRun, IsAbove, BmcSays, IsDecidedBy}
+use Rattle.updr_top.proofs.Runs.{none_or_excess, run_or_excess}
 use Rattle.updr_top.proofs.Causes.{status_is}
 use Rattle.updr_top.proofs.Deciding.{neither, both}
 use Rattle.updr_top.proofs.Exclusive.{text_means}
@@ -28,7 +28,7 @@ module _ (depth limit : ℕ) (model : List ℕ) (out err : Sunk) (s : ℕ) where
   none_says : RefusesText purpose.Infer model err s → 10 ≤ s → NothingMeant → BmcSays depth limit model out err s
   none_says refused high none = record {
     refused = refused;
-    run = other 1 s (MeansStratified purpose.Infer (HasLeastRun depth limit) model) (λ h. absurd (omega (arith, high))) (none (HasLeastRun depth limit));
+    run = other 1 s (MeansStratified purpose.Infer (HasRun depth limit) model) (λ h. absurd (omega (arith, high))) (none (HasRun depth limit));
     no_run = other 0 s (MeansStratified purpose.Infer (HasNoRun depth limit) model) (λ h. absurd (omega (arith, high))) (none (HasNoRun depth limit));
     over = other 5 s (MeansStratified purpose.Infer (IsAbove depth limit) model) (λ h. absurd (omega (arith, high))) (none (IsAbove depth limit));
     run_text = λ h. absurd (omega (arith, high));
@@ -52,8 +52,8 @@ module _ (depth limit : ℕ) (model : List ℕ) (out err : Sunk) (s : ℕ) where
         let one : s ≡ 1 = status ∙ status_is e _ end in
         record {
           refused = ordered_text purpose.Infer model err s sys names the ordered (omega (arith, one));
-          run = both 1 s (MeansStratified purpose.Infer (HasLeastRun depth limit) model) one (there (HasLeastRun depth limit) (w, r));
-          no_run = neither 1 0 s (MeansStratified purpose.Infer (HasNoRun depth limit) model) one (λ h. absurd (omega arith)) (λ m. run_or_none sys limit depth w r (here (HasNoRun depth limit) m));
+          run = both 1 s (MeansStratified purpose.Infer (HasRun depth limit) model) one (there (HasRun depth limit) ((r.steps, w, r.least.within, r.least.run), λ x. run_or_excess sys limit is depth w x.0 r x.1));
+          no_run = neither 1 0 s (MeansStratified purpose.Infer (HasNoRun depth limit) model) one (λ h. absurd (omega arith)) (λ m. (here (HasNoRun depth limit) m).0 r.steps r.least.within w r.least.run);
           over = neither 1 5 s (MeansStratified purpose.Infer (IsAbove depth limit) model) one (λ h. absurd (omega arith)) (λ m. let x = here (IsAbove depth limit) m in run_or_excess sys limit is depth w x.0 r x.1);
           run_text = λ _. (w, (sys, names, text_means model sys names the, (r, subst (λ (e : End). TakesAll out e.text) end text)));
           over_text = λ h. absurd (omega (arith, one, h));
@@ -62,8 +62,8 @@ module _ (depth limit : ℕ) (model : List ℕ) (out err : Sunk) (s : ℕ) where
         let zero : s ≡ 0 = status ∙ status_is e _ end in
         record {
           refused = ordered_text purpose.Infer model err s sys names the ordered (omega (arith, zero));
-          run = neither 0 1 s (MeansStratified purpose.Infer (HasLeastRun depth limit) model) zero (λ h. absurd (omega arith)) (λ m. let r = here (HasLeastRun depth limit) m in run_or_none sys limit depth r.0 r.1 n);
-          no_run = both 0 s (MeansStratified purpose.Infer (HasNoRun depth limit) model) zero (there (HasNoRun depth limit) n);
+          run = neither 0 1 s (MeansStratified purpose.Infer (HasRun depth limit) model) zero (λ h. absurd (omega arith)) (λ m. let (k, w, within, run) = (here (HasRun depth limit) m).0 in n.none k within w run);
+          no_run = both 0 s (MeansStratified purpose.Infer (HasNoRun depth limit) model) zero (there (HasNoRun depth limit) (n.none, λ x. none_or_excess sys limit depth x.0 n x.1));
           over = neither 0 5 s (MeansStratified purpose.Infer (IsAbove depth limit) model) zero (λ h. absurd (omega arith)) (λ m. let x = here (IsAbove depth limit) m in none_or_excess sys limit depth x.0 n x.1);
           run_text = λ h. absurd (omega (arith, zero, h));
           over_text = λ h. absurd (omega (arith, zero, h));
@@ -72,8 +72,8 @@ module _ (depth limit : ℕ) (model : List ℕ) (out err : Sunk) (s : ℕ) where
         let five : s ≡ 5 = status ∙ status_is e _ end in
         record {
           refused = ordered_text purpose.Infer model err s sys names the ordered (omega (arith, five));
-          run = neither 5 1 s (MeansStratified purpose.Infer (HasLeastRun depth limit) model) five (λ h. absurd (omega arith)) (λ m. let r = here (HasLeastRun depth limit) m in run_or_excess sys limit is depth r.0 x r.1 above);
-          no_run = neither 5 0 s (MeansStratified purpose.Infer (HasNoRun depth limit) model) five (λ h. absurd (omega arith)) (λ m. none_or_excess sys limit depth x (here (HasNoRun depth limit) m) above);
+          run = neither 5 1 s (MeansStratified purpose.Infer (HasRun depth limit) model) five (λ h. absurd (omega arith)) (λ m. (here (HasRun depth limit) m).1 (x, above));
+          no_run = neither 5 0 s (MeansStratified purpose.Infer (HasNoRun depth limit) model) five (λ h. absurd (omega arith)) (λ m. (here (HasNoRun depth limit) m).1 (x, above));
           over = both 5 s (MeansStratified purpose.Infer (IsAbove depth limit) model) five (there (IsAbove depth limit) (x, above));
           run_text = λ h. absurd (omega (arith, five, h));
           over_text = λ _. (x, (sys, names, text_means model sys names the, (above, subst (λ (e : End). TakesAll out e.text) end text)));

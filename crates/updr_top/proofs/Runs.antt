@@ -63,10 +63,7 @@ module _ (sys : System) (limit : ℕ) where
   no_world : (k : ℕ) → HasNoRunOf sys k → HasNoWorld sys.sig (run_query sys k)
   no_world k none w meets = none w ((meaning-unroll sys k (run_query sys k) refl refl w).0 meets)
 
-  -- none of the three beside another
-  pub run_or_none : (depth : ℕ) (w : World) → FindsRun sys limit depth w → FindsNoRun sys limit depth → ⊥
-  run_or_none depth w r n = n.none r.steps r.least.within w r.least.run
-
+  -- no excess beside the others
   pub none_or_excess : (depth : ℕ) (x : Excess) → FindsNoRun sys limit depth → IsUnrollExcess sys limit depth x → ⊥
   none_or_excess depth x n e =
       excess_none sys.sig (run_query sys e.length) limit x e.excess (no_world e.length (n.none e.length e.within))

@@ -1,5 +1,5 @@
 -- The table of statuses of the commands that work on one model.
-use Rattle.std.specs.Prelude.{◌≡◌, ◌⊎◌, ◌↔◌, ℕ, List}
+use Rattle.std.specs.Prelude.{◌≡◌, ◌⊎◌, ◌↔◌, ◌≤◌, ℕ, List}
 use Rattle.std.specs.List.{All}
 use Rattle.fo_core.specs.declared.names.Names.{Names}
 use Rattle.fo_core.specs.declared.order.Purpose.{Purpose}
@@ -10,7 +10,8 @@ use Rattle.fo_core.specs.SortGraph.{IsStratified}
 use Rattle.pv_base.specs.Reading.{IsContent}
 use Rattle.pyv_strat.specs.Refusal.{IsUnstratified}
 use Rattle.fo_min.specs.declared.found.Excess.{Excess}
-use Rattle.up_unroll.specs.Unrolling.{IsUnrollExcess}
+use Rattle.up_claims.specs.Breaking.{IsViolatingRunOf}
+use Rattle.up_unroll.specs.Unrolling.{HasNoRunOf, IsUnrollExcess}
 use Rattle.up_claims.specs.declared.kind.Kind.TheVariants.{Unroll}
 use Rattle.up_claims.specs.Claims.{properties}
 use Rattle.up_claims.specs.Inductive.{IsInductive}
@@ -21,7 +22,7 @@ use Rattle.updr_top.specs.Outside.{Outside}
 use Rattle.updr_top.specs.Stratifying.{not_stratified}
 use Rattle.updr_top.specs.Table.{IsInPlace}
 use Rattle.updr_top.specs.Telling.{Sunk, TakesAll}
-use Rattle.updr_top.specs.Unrolling.{FindsRun, FindsNoRun, unsafe_run, over_query}
+use Rattle.updr_top.specs.Unrolling.{FindsRun, unsafe_run, over_query}
 use Rattle.updr_top.specs.Verifying.{IsLight, FailsFirst, IsOver, not_inductive, over_verify}
 
 -- the text means a system, as P says of it and its names
@@ -71,21 +72,22 @@ pub record VerifySays (limit : ℕ) (model : List ℕ) (out err : Sunk) (status 
 
 -- ---- `bmc`
 
--- a violating run is found, or that none has at most so many steps, and no query that is asked is above the limit
-abbrev pub HasLeastRun : ℕ → ℕ → System → Type 0
-HasLeastRun depth limit sys = (w : World) × FindsRun sys limit depth w
-
-abbrev pub HasNoRun : ℕ → ℕ → System → Type 0
-HasNoRun depth limit sys = FindsNoRun sys limit depth
-
--- a query that is asked, in their order, is above the limit
+-- a query of the search, in its order, is above the limit
 abbrev pub IsAbove : ℕ → ℕ → System → Type 0
 IsAbove depth limit sys = (x : Excess) × IsUnrollExcess sys limit depth x
+
+-- a violating run of at most so many steps exists, and no query of the search is above the limit
+abbrev pub HasRun : ℕ → ℕ → System → Type 0
+HasRun depth limit sys = ((k : ℕ) × (w : World) × (k ≤ depth) × IsViolatingRunOf sys k w) × (¬ IsAbove depth limit sys)
+
+-- none exists, and no query of the search is above the limit
+abbrev pub HasNoRun : ℕ → ℕ → System → Type 0
+HasNoRun depth limit sys = ((k : ℕ) → k ≤ depth → HasNoRunOf sys k) × (¬ IsAbove depth limit sys)
 
 -- The status is the one that the model's text defines, and is told.
 pub record BmcSays (depth limit : ℕ) (model : List ℕ) (out err : Sunk) (status : ℕ) : Type 0 where
   pub refused : RefusesText purpose.Infer model err status
-  pub run : (status ≡ 1) ↔ MeansStratified purpose.Infer (HasLeastRun depth limit) model
+  pub run : (status ≡ 1) ↔ MeansStratified purpose.Infer (HasRun depth limit) model
   pub no_run : (status ≡ 0) ↔ MeansStratified purpose.Infer (HasNoRun depth limit) model
   pub over : (status ≡ 5) ↔ MeansStratified purpose.Infer (IsAbove depth limit) model
   -- the least of the shortest runs is reported; or the weight of the first query above the limit
