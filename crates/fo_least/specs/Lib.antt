@@ -1,4 +1,0 @@
-pub mod Asked
-pub mod Cells
-pub mod Least
-pub mod Trials
