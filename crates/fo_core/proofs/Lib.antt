@@ -15,6 +15,7 @@ pub mod ShiftRows
 pub mod ShiftTruth
 pub mod SortedLemmas
 pub mod TableLemmas
+pub mod TupleDigits
 pub mod TupleLemmas
 pub mod ValueLemmas
 pub mod Zips

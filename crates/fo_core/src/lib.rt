@@ -26,8 +26,10 @@ pub use boxed::Boxed;
 pub use cell::Cell;
 pub use finder::{Finder, Finders, Found};
 pub use laws::{
-    safe_where_no_reachable_state_violates, shifted_moves_copies, terms_read_bound_values,
-    truth_is_decided, truth_reads_named_copies,
+    all_tuples_are_in_order, outer_quantifiers_add_no_edge, quantified_formulas_are_well_sorted,
+    quantifiers_range_over_elements, safe_where_no_reachable_state_violates, shifted_moves_copies,
+    terms_read_bound_values, truth_is_decided, truth_reads_named_copies, tuples_are_numbered,
+    variables_read_values,
 };
 pub use formula::Formula;
 pub use names::Names;
