@@ -237,6 +237,7 @@ impl Names {
             sorts: texts(alloc, self.sorts.as_slice())?,
             symbols: texts(alloc, self.symbols.as_slice())?,
             steps: texts(alloc, self.steps.as_slice())?,
+            definitions: texts(alloc, self.definitions.as_slice())?,
         })
     }
 }

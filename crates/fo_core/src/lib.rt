@@ -25,7 +25,9 @@ pub use laws::{
     safe_where_no_reachable_state_violates, shifted_moves_copies, terms_read_bound_values,
     truth_is_decided, truth_reads_named_copies,
 };
-pub use names::Names;
+pub use names::{
+    Names, RESERVED_WORDS, begins_word, continues_word, is_name, is_reserved, is_word,
+};
 pub use order::{Order, Purpose};
 pub use query::Query;
 pub use seq::Seq;
