@@ -32,7 +32,9 @@ pub use laws::{
     variables_read_values,
 };
 pub use formula::Formula;
-pub use names::Names;
+pub use names::{
+    Names, RESERVED_WORDS, begins_word, continues_word, is_name, is_reserved, is_word,
+};
 pub use order::{Order, Purpose};
 pub use over::{all_over, some_over, variables};
 pub use query::{MOST_WEIGHT, Query};
