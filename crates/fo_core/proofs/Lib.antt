@@ -1,11 +1,14 @@
 pub mod AgreeLemmas
+pub mod Alike
 pub mod Answered
 pub mod CountLemmas
 pub mod Decided
 pub mod EdgeRows
 pub mod MoreCopies
 pub mod PlaceLemmas
+pub mod ReachLemmas
 pub mod Rows
+pub mod RunLemmas
 pub mod ShiftEdges
 pub mod ShiftRows
 pub mod ShiftTruth

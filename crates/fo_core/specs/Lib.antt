@@ -3,6 +3,7 @@ pub mod Finds
 pub mod Named
 pub mod Queries
 pub mod QueryWeight
+pub mod RunLaws
 pub mod Runs
 pub mod Shift
 pub mod Skolems

@@ -117,7 +117,7 @@ fn texts(alloc: Global, items: &[Text]) -> Result<Seq<Text>, AllocError>
     Ok(copies)
 }
 
-fn tables(alloc: Global, items: &[Table]) -> Result<Seq<Table>, AllocError>
+pub(crate) fn tables(alloc: Global, items: &[Table]) -> Result<Seq<Table>, AllocError>
     ensures { IfOk result (λ s. s ≡ items.now) }
 {
     let mut copies = Seq::new(alloc);

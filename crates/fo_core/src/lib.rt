@@ -11,6 +11,7 @@ mod laws;
 mod names;
 mod order;
 mod query;
+mod run_laws;
 mod seq;
 mod shift;
 mod sorted;
@@ -28,6 +29,7 @@ pub use laws::{
 pub use names::Names;
 pub use order::{Order, Purpose};
 pub use query::Query;
+pub use run_laws::{copy_alone_keeps_meaning, pair_of_copies_keeps_meaning, reached_step_by_step};
 pub use seq::Seq;
 pub use shift::shifted;
 pub use syntax::{Formula, Sig, Step, Symbol, System, Term};
@@ -38,3 +40,5 @@ pub use world::{Table, World};
 mod shift_tests;
 #[cfg(test)]
 mod tests;
+#[cfg(test)]
+mod world_tests;
