@@ -9,7 +9,9 @@ pub mod ListFacts
 pub mod MoreCopies
 pub mod Pieces
 pub mod PlaceLemmas
+pub mod ReachLemmas
 pub mod Rows
+pub mod RunLemmas
 pub mod ShiftEdges
 pub mod ShiftRows
 pub mod ShiftTruth

@@ -8,6 +8,7 @@ pub mod Named
 pub mod Over
 pub mod Queries
 pub mod QueryWeight
+pub mod RunLaws
 pub mod Runs
 pub mod Shift
 pub mod Skolems
