@@ -20,18 +20,19 @@ mod system;
 mod term;
 mod text;
 mod tuples;
+mod weight_laws;
 mod world;
 
 pub use boxed::Boxed;
 pub use cell::Cell;
 pub use finder::{Finder, Finders, Found};
+pub use formula::Formula;
 pub use laws::{
     all_tuples_are_in_order, outer_quantifiers_add_no_edge, quantified_formulas_are_well_sorted,
     quantifiers_range_over_elements, safe_where_no_reachable_state_violates, shifted_moves_copies,
     terms_read_bound_values, truth_is_decided, truth_reads_named_copies, tuples_are_numbered,
     variables_read_values,
 };
-pub use formula::Formula;
 pub use names::{
     Names, RESERVED_WORDS, begins_word, continues_word, is_name, is_reserved, is_word,
 };
@@ -45,6 +46,7 @@ pub use system::{Step, System};
 pub use term::Term;
 pub use text::Text;
 pub use tuples::{all_tuples, sizes_of, tuple_at, tuple_count, tuple_place};
+pub use weight_laws::{fewer_formulas_are_no_heavier, fewer_literals_are_no_heavier};
 pub use world::{Table, World};
 
 #[cfg(test)]
