@@ -3,8 +3,12 @@ pub mod Alike
 pub mod Answered
 pub mod Binders
 pub mod CountLemmas
+pub mod CubeClaims
 pub mod Decided
 pub mod EdgeRows
+pub mod FewerLiterals
+pub mod GrowingCounts
+pub mod GrowingWeight
 pub mod ListFacts
 pub mod MoreCopies
 pub mod Pieces
@@ -16,6 +20,7 @@ pub mod ShiftEdges
 pub mod ShiftRows
 pub mod ShiftTruth
 pub mod SortedLemmas
+pub mod SubMultisets
 pub mod TableLemmas
 pub mod TupleDigits
 pub mod TupleLemmas

@@ -4,6 +4,7 @@ pub mod Cells
 pub mod Embedding
 pub mod Finds
 pub mod Least
+pub mod Literals
 pub mod Named
 pub mod Over
 pub mod Queries

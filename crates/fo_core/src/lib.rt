@@ -21,6 +21,7 @@ mod system;
 mod term;
 mod text;
 mod tuples;
+mod weight_laws;
 mod world;
 
 pub use boxed::Boxed;
@@ -47,6 +48,7 @@ pub use system::{Step, System};
 pub use term::Term;
 pub use text::Text;
 pub use tuples::{all_tuples, sizes_of, tuple_at, tuple_count, tuple_place};
+pub use weight_laws::{fewer_formulas_are_no_heavier, fewer_literals_are_no_heavier};
 pub use world::{Table, World};
 
 #[cfg(test)]
