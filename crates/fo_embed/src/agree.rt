@@ -21,8 +21,8 @@ pub(crate) struct States<'a> {
 #[derive(Clone, Copy)]
 struct Tables<'a> {
     symbol: &'a Symbol,
-    here: &'a [u32],
-    there: &'a [u32],
+    here: &'a Seq<u32>,
+    there: &'a Seq<u32>,
 }
 
 /// Whether the value becomes the other one: a truth value stays, an element goes to its image.
@@ -54,8 +54,10 @@ fn agree_from(
     ensures { IsTrue result ↔ AgreeFrom states.now.from.now.sizes states.now.to.now.sizes maps.now tables.now.symbol.now tables.now.here.now tables.now.there.now sorts.now at to }
 {
     if sorts.is_empty() {
-        return is_kept(tables.symbol, maps, tables.here[at], tables.there[to]);
+        return is_kept(tables.symbol, maps, *tables.here.at(at), *tables.there.at(to));
     }
+    let _cells = tables.here.len();
+    let _cells_to = tables.there.len();
     let sort = sorts[0] as usize;
     let from_size = *states.from.sizes.at(sort) as usize;
     let to_size = *states.to.sizes.at(sort) as usize;
@@ -81,8 +83,8 @@ fn agrees(states: &States, maps: &[Seq<u32>], symbol: usize) -> bool
     let symbol = states.sig.symbols.at(symbol);
     let tables = Tables {
         symbol,
-        here: here.values.as_slice(),
-        there: there.values.as_slice(),
+        here: &here.values,
+        there: &there.values,
     };
     agree_from(states, maps, &tables, symbol.args.as_slice(), 0, 0)
 }
