@@ -1,4 +1,5 @@
-ghost use Rattle.std.specs.Prelude.{◌≡◌, ◌<◌, ◌-◌, [], ℕ, List, true, false, length, take, slice_index, slice_index_or, IfOk, OnOk, MatchOption, MatchBool};
+ghost use Rattle.std.specs.Prelude.{◌≡◌, ◌↔◌, ◌<◌, ◌-◌, [], ℕ, List, true, false, length, take, slice_index, slice_index_or, IsTrue, IfOk, MatchOption};
+ghost use Rattle.std.specs.List.{Contains};
 ghost use Rattle.fo_core.specs.Embedding.{IsEmbedding};
 ghost use Rattle.fo_embed.specs.Compared.{CanCompare, IsFirstEmbedding};
 ghost use Rattle.fo_embed.specs.Placing.{IsPart, AllAgree, with_image};
@@ -9,6 +10,13 @@ use crate::map::Map;
 use fo_core::{Seq, Sig, World};
 use std::alloc::{AllocError, Global};
 use std::mem;
+
+/// Whether the number is one of these.
+fn is_among(images: &[u32], image: u32) -> bool
+    ensures { IsTrue result ↔ Contains images.now image }
+{
+    images.contains(&image)
+}
 
 /// Takes the last number off.
 fn take_last(alloc: Global, list: &mut Seq<u32>)
@@ -33,11 +41,12 @@ fn put(
     requires within { sort < length maps.old }
     requires more { length (slice_index_or maps.old sort []) < slice_index states.now.from.now.sizes sort }
     requires in_range { image < slice_index states.now.to.now.sizes sort }
-    ensures put { IfOk result (λ put. MatchBool put (maps.new ≡ maps.old) (maps.new ≡ with_image maps.old sort image)) }
-    ensures begun { OnOk result (IsBegun states.now.sig.now states.now.from.now states.now.from_copy states.now.to.now states.now.to_copy maps.new sort) }
+    ensures put { IfOk result (λ put. put ≡ true → maps.new ≡ with_image maps.old sort image) }
+    ensures begun { IfOk result (λ put. put ≡ true → IsBegun states.now.sig.now states.now.from.now states.now.from_copy states.now.to.now states.now.to_copy maps.new sort) }
+    ensures same { IfOk result (λ put. put ≡ false → maps.new ≡ maps.old) }
     ensures none { IfOk result (λ put. put ≡ false → HasNoneWith states.now.sig.now states.now.from.now states.now.from_copy states.now.to.now states.now.to_copy maps.old sort image) }
 {
-    if maps[sort].as_slice().contains(&image) {
+    if is_among(maps[sort].as_slice(), image) {
         return Ok(false);
     }
     maps[sort].push(image)?;
@@ -105,7 +114,7 @@ pub fn find_embedding(
         to_copy: tc as usize,
     };
     let mut maps = Vec::new(alloc);
-    'each: for _ in 0..s.sizes.len() {
+    'each: for _i in 0..s.sizes.len() {
         maps.push(Seq::new(alloc))?;
     }
     if !all_agree(&states, maps.as_slice()) {
