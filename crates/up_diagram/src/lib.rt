@@ -1,13 +1,21 @@
-// A library with one function.
+//! Flat literals and cubes, the diagram of a state, and when states meet cubes and cubes cover others.
 #![tactic(auto)]
 
-ghost use Rattle.std.specs.Prelude.{◌≡◌};
-ghost use Rattle.up_diagram.specs.Echo.{echo_of};
+mod claims;
+mod covering;
+mod cube;
+mod describing;
+mod leaving_out;
+mod meeting;
+mod picks;
 
-// The `ensures` clause is the contract: what `echo` returns is `echo_of` of its argument, a definition
-// in `specs/Echo.antt`, which a caller's clause can cite too.
-pub fn echo(x: usize) -> usize
-    ensures { result ≡ echo_of x }
-{
-    x
-}
+pub use claims::{claim, clause};
+pub use covering::{covers, covers_in};
+pub use cube::{Cube, Flat};
+pub use describing::diagram;
+pub use meeting::meets;
+pub use picks::Picks;
+pub use leaving_out::without;
+
+#[cfg(test)]
+mod tests;

@@ -1,0 +1,167 @@
+ghost use Rattle.std.specs.Prelude.{◌≡◌, ◌+◌, ◌<◌, ◌≤◌, ◌^◌, ◌++◌, ◌∷◌, [], ℕ, length, map, take, slice_index, replicate, IfOk, OnOk};
+ghost use Rattle.std.specs.List.{All, flat_map, range_with_len, sum};
+ghost use Rattle.fo_core.specs.Runs.{AreElements};
+ghost use Rattle.fo_core.specs.Tables.{symbol_at};
+ghost use Rattle.up_diagram.specs.Diagrams.{element_sorts as element_sorts_of, variables_of, differ as differ_of, differ_from, fact_of, facts_of, diagram as diagram_of, CanDescribe};
+
+use crate::cube::{Cube, Flat};
+use fo_core::{Seq, Sig, World, all_tuples, sizes_of};
+use std::alloc::{AllocError, Global};
+
+/// For each sort the variable of its first element.
+fn first_variables(alloc: Global, sizes: &[u32]) -> Result<Seq<u32>, AllocError>
+    requires few { sum sizes.now < 2 ^ 32 }
+    ensures count { IfOk result (λ firsts. length firsts ≡ length sizes.now) }
+    ensures each { IfOk result (λ firsts. (s : ℕ) → s < length sizes.now → slice_index firsts s ≡ sum (take s sizes.now)) }
+{
+    let mut firsts = Seq::new(alloc);
+    let mut next = 0;
+    'each: for size in sizes {
+        firsts.push(next)?;
+        next += *size;
+    }
+    Ok(firsts)
+}
+
+/// Puts a sort behind the others, this many times.
+fn push_sorts(sorts: &mut Seq<u32>, sort: u32, count: u32) -> Result<(), AllocError>
+    ensures { OnOk result (sorts.new ≡ sorts.old ++ replicate count sort) }
+{
+    'each: for _i in 0..count {
+        sorts.push(sort)?;
+    }
+    Ok(())
+}
+
+/// The sorts of all elements, sort by sort.
+fn element_sorts(alloc: Global, sizes: &[u32]) -> Result<Seq<u32>, AllocError>
+    requires { length sizes.now < 2 ^ 32 }
+    ensures { IfOk result (λ sorts. sorts ≡ element_sorts_of sizes.now) }
+{
+    let mut sorts = Seq::new(alloc);
+    'each: for s in 0..sizes.len() {
+        push_sorts(&mut sorts, s as u32, sizes[s])?;
+    }
+    Ok(sorts)
+}
+
+/// Says that variable i and each later one of its sort differ.
+fn push_differ_from(lits: &mut Seq<Flat>, sorts: &[u32], i: usize) -> Result<(), AllocError>
+    requires few { length sorts.now < 2 ^ 32 }
+    requires within { i < length sorts.now }
+    ensures { OnOk result (lits.new ≡ lits.old ++ differ_from sorts.now i) }
+{
+    'each: for j in 0..sorts.len() {
+        if j <= i || sorts[i] != sorts[j] {
+            continue;
+        }
+        lits.push(Flat::Differ(i as u32, j as u32))?;
+    }
+    Ok(())
+}
+
+/// Says that any two variables of one sort differ.
+fn push_differ(lits: &mut Seq<Flat>, sorts: &[u32]) -> Result<(), AllocError>
+    requires few { length sorts.now < 2 ^ 32 }
+    ensures { OnOk result (lits.new ≡ lits.old ++ differ_of sorts.now) }
+{
+    'each: for i in 0..sorts.len() {
+        push_differ_from(lits, sorts, i)?;
+    }
+    Ok(())
+}
+
+/// The variables of elements of these sorts.
+fn variables(
+    alloc: Global,
+    sizes: &[u32],
+    firsts: &[u32],
+    sorts: &[u32],
+    elements: &[u32],
+) -> Result<Seq<u32>, AllocError>
+    requires few { sum sizes.now < 2 ^ 32 }
+    requires count { length firsts.now ≡ length sizes.now }
+    requires firsts { (s : ℕ) → s < length sizes.now → slice_index firsts.now s ≡ sum (take s sizes.now) }
+    requires elements { AreElements sizes.now elements.now sorts.now }
+    ensures { IfOk result (λ vs. vs ≡ variables_of sizes.now sorts.now elements.now) }
+{
+    let mut list = Seq::new(alloc);
+    'each: for (i, x) in elements.iter().enumerate() {
+        list.push(firsts[sorts[i] as usize] + *x)?;
+    }
+    Ok(list)
+}
+
+/// What the symbol says of the elements in the copy.
+fn fact(
+    alloc: Global,
+    sig: &Sig,
+    w: &World,
+    copy: u32,
+    firsts: &[u32],
+    symbol: u32,
+    elements: &[u32],
+) -> Result<Flat, AllocError>
+    requires describe { CanDescribe sig.now w.now copy }
+    requires count { length firsts.now ≡ length w.now.sizes }
+    requires firsts { (s : ℕ) → s < length w.now.sizes → slice_index firsts.now s ≡ sum (take s w.now.sizes) }
+    requires within { symbol < length sig.now.symbols }
+    requires elements { AreElements w.now.sizes elements.now (symbol_at sig.now symbol).args }
+    ensures { IfOk result (λ lit. lit ≡ fact_of sig.now w.now copy symbol elements.now) }
+{
+    let found = sig.symbols.at(symbol as usize);
+    let value = w.value(sig, copy, symbol, elements);
+    let sizes = w.sizes.as_slice();
+    let vars = variables(alloc, sizes, firsts, found.args.as_slice(), elements)?;
+    if found.relation {
+        return Ok(Flat::Fact(value == 1, symbol, vars));
+    }
+    let of_value = firsts[found.result as usize] + value;
+    Ok(Flat::Value(symbol, vars, of_value))
+}
+
+/// Says all that the symbol says in the copy.
+fn push_facts(
+    alloc: Global,
+    sig: &Sig,
+    w: &World,
+    copy: u32,
+    firsts: &[u32],
+    symbol: u32,
+    lits: &mut Seq<Flat>,
+) -> Result<(), AllocError>
+    requires describe { CanDescribe sig.now w.now copy }
+    requires count { length firsts.now ≡ length w.now.sizes }
+    requires firsts { (s : ℕ) → s < length w.now.sizes → slice_index firsts.now s ≡ sum (take s w.now.sizes) }
+    requires within { symbol < length sig.now.symbols }
+    ensures { OnOk result (lits.new ≡ lits.old ++ facts_of sig.now w.now copy symbol) }
+{
+    let sorts = sig.symbols.at(symbol as usize).args.as_slice();
+    let sizes = sizes_of(alloc, w.sizes.as_slice(), sorts)?;
+    let tuples = all_tuples(alloc, sizes.as_slice())?;
+    'each: for tuple in tuples.as_slice() {
+        lits.push(fact(alloc, sig, w, copy, firsts, symbol, tuple.as_slice())?)?;
+    }
+    Ok(())
+}
+
+/// The diagram of a copy of the world: the cube that says all of it (Robinson's diagram, of model
+/// theory). Its variables are the elements, sort by sort. Its literals say first that any two elements
+/// of one sort differ, and then for each symbol and each tuple of elements, in lexicographic order,
+/// whether the relation holds or which element is the function's value.
+///
+/// The signature has to be well-sorted, the world to fit it and to have fewer than 2^32 elements in
+/// all, and the copy to be there. The one error is out of memory.
+pub fn diagram(alloc: Global, sig: &Sig, w: &World, copy: u32) -> Result<Cube, AllocError>
+    requires { CanDescribe sig.now w.now copy }
+    ensures { IfOk result (λ cube. cube ≡ diagram_of sig.now w.now copy) }
+{
+    let sorts = element_sorts(alloc, w.sizes.as_slice())?;
+    let firsts = first_variables(alloc, w.sizes.as_slice())?;
+    let mut lits = Seq::new(alloc);
+    push_differ(&mut lits, sorts.as_slice())?;
+    'each: for k in 0..sig.symbols.len() {
+        push_facts(alloc, sig, w, copy, firsts.as_slice(), k as u32, &mut lits)?;
+    }
+    Ok(Cube { sorts, lits })
+}
