@@ -1,1 +1,6 @@
-
+pub mod Bounds
+pub mod Covered
+pub mod Leaving
+pub mod Said
+pub mod Sentences
+pub mod UniversalRows

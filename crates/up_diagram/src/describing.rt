@@ -34,6 +34,7 @@ fn push_sorts(sorts: &mut Seq<u32>, sort: u32, count: u32) -> Result<(), AllocEr
 }
 
 /// The sorts of all elements, sort by sort.
+#[tactic(auto, using(fo_core::proofs::Pieces::flat_map_more))]
 fn element_sorts(alloc: Global, sizes: &[u32]) -> Result<Seq<u32>, AllocError>
     requires { length sizes.now < 2 ^ 32 }
     ensures { IfOk result (λ sorts. sorts ≡ element_sorts_of sizes.now) }
@@ -61,6 +62,7 @@ fn push_differ_from(lits: &mut Seq<Flat>, sorts: &[u32], i: usize) -> Result<(),
 }
 
 /// Says that any two variables of one sort differ.
+#[tactic(auto, using(fo_core::proofs::Pieces::flat_map_more))]
 fn push_differ(lits: &mut Seq<Flat>, sorts: &[u32]) -> Result<(), AllocError>
     requires few { length sorts.now < 2 ^ 32 }
     ensures { OnOk result (lits.new ≡ lits.old ++ differ_of sorts.now) }
@@ -152,6 +154,7 @@ fn push_facts(
 ///
 /// The signature has to be well-sorted, the world to fit it and to have fewer than 2^32 elements in
 /// all, and the copy to be there. The one error is out of memory.
+#[tactic(auto, using(fo_core::proofs::Pieces::flat_map_more))]
 pub fn diagram(alloc: Global, sig: &Sig, w: &World, copy: u32) -> Result<Cube, AllocError>
     requires { CanDescribe sig.now w.now copy }
     ensures { IfOk result (λ cube. cube ≡ diagram_of sig.now w.now copy) }

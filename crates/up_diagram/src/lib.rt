@@ -5,6 +5,7 @@ mod claims;
 mod covering;
 mod cube;
 mod describing;
+mod laws;
 mod leaving_out;
 mod meeting;
 mod picks;
@@ -15,6 +16,7 @@ pub use cube::{Cube, Flat};
 pub use describing::diagram;
 pub use meeting::meets;
 pub use picks::Picks;
+pub use laws::{covers_are_met, less_is_met, sentences_are_well_sorted, sentences_say_what_is_met};
 pub use leaving_out::without;
 
 #[cfg(test)]

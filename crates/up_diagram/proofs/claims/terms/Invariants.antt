@@ -4,4 +4,4 @@ use Rattle.up_diagram.proofs.claims.terms.Given as goal
 
 -- the variables before this one are terms
 abbrev pub invariant-each : goal.invariant-each
-invariant-each l = l.list ≡ map T.Var (take l.v-index l.v-items)
+invariant-each l = l.list ≡ map T.Var (take l.v-index l.variables)
