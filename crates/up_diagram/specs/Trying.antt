@@ -29,30 +29,44 @@ most (v ∷ vs) = max (v + 1) (most vs)
 abbrev pub bound : Flat → ℕ
 bound lit = most (variables_in lit)
 
--- the literals are true whose last variable is the last of those that stand for these elements
-abbrev pub Passes : Sig → World → ℕ → List ℕ → List Flat → Type 0
-Passes sig w c xs lits = All (λ lit. bound lit ≡ length xs → IsTrueFlat sig w c xs lit) lits
+-- Values are given to variables of these sorts, one after the other: each is one for its sort, and the
+-- literals are to hold.
+module _ (Serves : ℕ → ℕ → Type 0) (Holds : List ℕ → Flat → Type 0) (sorts : List ℕ) (literals : List Flat) where
+  -- the literals hold whose last variable is the last of those that have these values
+  abbrev pub HoldsLast : List ℕ → Type 0
+  HoldsLast xs = All (λ lit. bound lit ≡ length xs → Holds xs lit) literals
 
--- these are elements for the first variables, and all literals are true that speak of these alone
-pub record PassesSoFar (sig : Sig) (w : World) (c : ℕ) (xs : List ℕ) (cube : Cube) : Type 0 where
-  pub elements : AreElements w.sizes xs (take (length xs) cube.sorts)
-  pub lits : All (λ lit. bound lit ≤ length xs → IsTrueFlat sig w c xs lit) cube.lits
+  -- these are values for the first variables, and all literals hold that speak of these alone
+  pub record HoldsSoFar (xs : List ℕ) : Type 0 where
+    pub values : AllZip Serves xs (take (length xs) sorts)
+    pub lits : All (λ lit. bound lit ≤ length xs → Holds xs lit) literals
 
--- with some elements for the other variables all literals are true
-abbrev pub MeetsFrom : Sig → World → ℕ → List ℕ → Cube → Type 0
-MeetsFrom sig w c xs cube = (ys : List ℕ) × AreElements w.sizes ys (drop (length xs) cube.sorts) × All (IsTrueFlat sig w c (xs ++ ys)) cube.lits
+  -- with some values for the other variables all literals hold
+  abbrev pub HoldsFrom : List ℕ → Type 0
+  HoldsFrom xs = (ys : List ℕ) × AllZip Serves ys (drop (length xs) sorts) × All (Holds (xs ++ ys)) literals
 
--- the literals become literals of the others whose last variable is the last of those that have images
-abbrev pub Sends : List ℕ → List Flat → List Flat → Type 0
-Sends images others lits = All (λ lit. bound lit ≡ length images → HasLiteral others (renamed (slice_index images) lit)) lits
+-- elements of a world are to make the literals of a cube true
+module _ (sig : Sig) (w : World) (c : ℕ) (xs : List ℕ) (cube : Cube) where
+  abbrev pub Passes : Type 0
+  Passes = HoldsLast (λ x s. x < slice_index w.sizes s) (IsTrueFlat sig w c) cube.sorts cube.lits xs
 
--- these are images for the first variables, and all literals become some that speak of these alone
-pub record SendsSoFar (images : List ℕ) (d c : Cube) : Type 0 where
-  pub sorts : AllZip (HasSort c.sorts) images (take (length images) d.sorts)
-  pub lits : All (λ lit. bound lit ≤ length images → HasLiteral c.lits (renamed (slice_index images) lit)) d.lits
+  abbrev pub PassesSoFar : Type 0
+  PassesSoFar = HoldsSoFar (λ x s. x < slice_index w.sizes s) (IsTrueFlat sig w c) cube.sorts cube.lits xs
 
--- with some images for the other variables all literals become some of the other cube
-abbrev pub SendsFrom : List ℕ → Cube → Cube → Type 0
-SendsFrom images d c =
-    (more : List ℕ) × AllZip (HasSort c.sorts) more (drop (length images) d.sorts)
-    × All (λ lit. HasLiteral c.lits (renamed (slice_index (images ++ more)) lit)) d.lits
+  abbrev pub MeetsFrom : Type 0
+  MeetsFrom = HoldsFrom (λ x s. x < slice_index w.sizes s) (IsTrueFlat sig w c) cube.sorts cube.lits xs
+
+-- with the images of variables a literal becomes one of these
+abbrev pub BecomesOne : List Flat → List ℕ → Flat → Type 0
+BecomesOne others images lit = HasLiteral others (renamed (slice_index images) lit)
+
+-- variables of the cube c are to be images of those of d, so that the literals become some of c
+module _ (images : List ℕ) (d c : Cube) where
+  abbrev pub Sends : Type 0
+  Sends = HoldsLast (HasSort c.sorts) (BecomesOne c.lits) d.sorts d.lits images
+
+  abbrev pub SendsSoFar : Type 0
+  SendsSoFar = HoldsSoFar (HasSort c.sorts) (BecomesOne c.lits) d.sorts d.lits images
+
+  abbrev pub SendsFrom : Type 0
+  SendsFrom = HoldsFrom (HasSort c.sorts) (BecomesOne c.lits) d.sorts d.lits images

@@ -65,11 +65,11 @@ fn has_image(images: &[usize], lit: &Flat, others: &[Flat]) -> bool
 }
 
 /// Whether all literals become some of the others whose last variable is the last that has an image.
-fn sends(images: &[usize], lits: &[Flat], others: &[Flat]) -> bool
-    ensures { IsTrue result ↔ Sends images.now others.now lits.now }
+fn sends(images: &[usize], d: &Cube, c: &Cube) -> bool
+    ensures { IsTrue result ↔ Sends images.now d.now c.now }
 {
-    'each: for lit in lits {
-        if bound(lit) == images.len() && !has_image(images, lit, others) {
+    'each: for lit in d.lits.as_slice() {
+        if bound(lit) == images.len() && !has_image(images, lit, c.lits.as_slice()) {
             return false;
         }
     }
@@ -95,8 +95,7 @@ fn send(d: &Cube, c: &Cube, images: &mut [usize], at: usize) -> bool
             continue;
         }
         images[at] = x;
-        if sends(&images[..at + 1], d.lits.as_slice(), c.lits.as_slice())
-            && send(d, c, images, at + 1)
+        if sends(&images[..at + 1], d, c) && send(d, c, images, at + 1)
         {
             return true;
         }
@@ -113,8 +112,10 @@ pub fn covers_in(d: &Cube, c: &Cube, picks: &mut Picks) -> bool
     ensures covers { IsTrue result ↔ Covers d.now c.now }
     ensures room { picks.new ≡ picks.old }
 {
-    let (lits, others) = (d.lits.as_slice(), c.lits.as_slice());
-    sends(&[], lits, others) && send(d, c, picks.slots(), 0)
+    if !sends(&[], d, c) {
+        return false;
+    }
+    send(d, c, picks.slots.as_mut_slice(), 0)
 }
 
 /// Whether the cube `d` covers the cube `c`: some map of all variables of `d` to variables of `c`

@@ -95,7 +95,7 @@ fn is_true(trial: &Trial, picks: &[usize], lit: &Flat) -> bool
 fn passes(trial: &Trial, picks: &[usize]) -> bool
     requires meet { CanMeet trial.now.sig.now trial.now.w.now trial.now.copy trial.now.cube.now }
     requires elements { AreElements trial.now.w.now.sizes picks.now (take (length picks.now) trial.now.cube.now.sorts) }
-    ensures { IsTrue result ↔ Passes trial.now.sig.now trial.now.w.now trial.now.copy picks.now trial.now.cube.now.lits }
+    ensures { IsTrue result ↔ Passes trial.now.sig.now trial.now.w.now trial.now.copy picks.now trial.now.cube.now }
 {
     'each: for lit in trial.cube.lits.as_slice() {
         if bound(lit) == picks.len() && !is_true(trial, picks, lit) {
@@ -121,7 +121,10 @@ fn fill(trial: &Trial, picks: &mut [usize], at: usize) -> bool
     let size = *trial.w.sizes.at(*trial.cube.sorts.at(at) as usize);
     'each: for x in 0..size {
         picks[at] = x as usize;
-        if passes(trial, &picks[..at + 1]) && fill(trial, picks, at + 1) {
+        if !passes(trial, &picks[..at + 1]) {
+            continue;
+        }
+        if fill(trial, picks, at + 1) {
             return true;
         }
     }
@@ -146,5 +149,8 @@ pub fn meets(sig: &Sig, w: &World, copy: u32, cube: &Cube, picks: &mut Picks) ->
         copy: copy as usize,
         cube,
     };
-    passes(&trial, &[]) && fill(&trial, picks.slots(), 0)
+    if !passes(&trial, &[]) {
+        return false;
+    }
+    fill(&trial, picks.slots.as_mut_slice(), 0)
 }

@@ -8,7 +8,7 @@ use std::marker::Model;
 /// Contracts see how many variables it has room for.
 #[derive(Drop)]
 pub struct Picks {
-    slots: Vec<usize>,
+    pub(crate) slots: Vec<usize>,
 }
 
 impl Model for Picks {
@@ -34,12 +34,5 @@ impl Picks {
         Ok(Picks {
             slots: vec![in alloc; 0; vars]?,
         })
-    }
-
-    /// The values, to be written over.
-    pub(crate) fn slots(&mut self) -> &mut [usize]
-        ensures { length result.now ≡ self.old }
-    {
-        self.slots.as_mut_slice()
     }
 }
