@@ -22,14 +22,3 @@ alike-self : (lit : Flat) → IsAlike lit lit
 alike-self (Differ i j) = inl refl
 alike-self (Fact sign r variables) = refl
 alike-self (Value f variables v) = refl
-
-nat_eq-self : (v : ℕ) → nat_eq v v ≡ true
-nat_eq-self v = T-true (eqb_refl v)
-
--- each variable of one of the literals is used
-used-each : (lits : List Flat) → All (λ lit. All (λ v. is_used lits v ≡ true) (variables_in lit)) lits
-used-each lits k lit lt j v in_ =
-    let at = get_or lits k lit in
-    let u = get_or (variables_in at) j v in
-    list_any-from_Any (λ l. list_any (nat_eq u) (variables_in l)) lits
-    (k, lit, lt, ?, ?)

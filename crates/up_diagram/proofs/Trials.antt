@@ -14,8 +14,8 @@ use Rattle.up_diagram.specs.declared.cube.Flat.{Flat}
 use Rattle.up_diagram.specs.declared.cube.Flat.TheVariants.{Differ, Fact, Value}
 use Rattle.up_diagram.specs.declared.cube.Cube.{Cube}
 use Rattle.up_diagram.specs.Cubes.{chosen, HasSign, IsTrueFlat, HasSort, IsFlat, IsCube, HasPlaces, variables_in, renamed}
-use Rattle.up_diagram.specs.Covers.{HasLiteral}
-use Rattle.up_diagram.specs.Trying.{most, bound, BecomesOne}
+use Rattle.up_diagram.specs.Covers.{HasLiteral, Covers}
+use Rattle.up_diagram.specs.Trying.{most, bound, BecomesOne, SendsFrom}
 use Rattle.up_diagram.proofs.Bounds.{most-above, most-least, most-push}
 use Rattle.up_diagram.proofs.Covered.{last_of_all}
 
@@ -84,3 +84,10 @@ pub sent-stable : (others : List Flat) (xs ys : List ℕ) (lit : Flat) → bound
 sent-stable others xs ys lit le =
     let same = renamed-stable xs ys lit le in
     (subst (HasLiteral others) same, subst (HasLiteral others) (sym same))
+
+-- a map of all variables is one from the first variable on
+pub to-covers : (d c : Cube) → HasPlaces d → SendsFrom [] d c → Covers d c
+to-covers d c places s = record { images = s.0; sorts = s.1; places = places; literals = s.2 }
+
+pub from-covers : (d c : Cube) → Covers d c → SendsFrom [] d c
+from-covers d c h = (h.images, h.sorts, h.literals)

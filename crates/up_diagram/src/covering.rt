@@ -95,8 +95,10 @@ fn send(d: &Cube, c: &Cube, images: &mut [usize], at: usize) -> bool
             continue;
         }
         images[at] = x;
-        if sends(&images[..at + 1], d, c) && send(d, c, images, at + 1)
-        {
+        if !sends(&images[..at + 1], d, c) {
+            continue;
+        }
+        if send(d, c, images, at + 1) {
             return true;
         }
     }

@@ -18,13 +18,29 @@ returns-then-at-len-clause-sent t c =
 
 pub send-requires : goal.send-requires
 send-requires t c =
-    let h = c.if-at.false in
-    let k = c.at.ensures in
-    let l = c.at-in-each.ensures in
-    ?
+    let room : c.args.at ≤ length c.args.images.now = omega (arith, c.requires.room, c.requires.within) in
+    let len : length (take c.args.at c.args.images.now) ≡ c.args.at = length-take-le c.args.at c.args.images.now room in
+    let more : c.args.at < length c.args.d.now.sorts = omega (arith, c.requires.within, c.if-at-len.false, c.len.ensures) in
+    let less : length (take c.args.at c.args.images.now) < length c.args.d.now.sorts = omega (arith, len, more) in
+    let sort = sym (c.at.ensures 0) ∙ c.if-at.false ∙ c.at-in-each.ensures 0 ∙ ap (slice_index c.args.d.now.sorts) (sym len) in
+    let serves : HasSort c.args.c.now.sorts c.each.x (slice_index c.args.d.now.sorts (length (take c.args.at c.args.images.now))) = record { within = omega (arith, c.each-test.true, c.len-x-end.ensures); sort = sort } in
+    let grown : take (c.args.at + 1) (set c.each.images c.args.at c.each.x) ≡ take c.args.at c.args.images.now ++ c.each.x ∷ [] = take-set_at c.each.images c.args.at (c.args.at + 1) c.each.x refl (omega (arith, c.requires.room, more, c.each.invariant.room)) ∙ ap (λ (zs : List ℕ). zs ++ c.each.x ∷ []) c.each.invariant.kept in
+    let sent = rw grown at (c.sends.ensures.0 c.if-not-sends.false) in
+    let falls : length c.args.d.now.sorts - (c.args.at + 1) < length c.args.d.now.sorts - c.args.at = omega (arith, more) in
+    let far = one-more (HasSort c.args.c.now.sorts) (BecomesOne c.args.c.now.lits) c.args.d.now.sorts c.args.d.now.lits (sent-stable c.args.c.now.lits) (take c.args.at c.args.images.now) c.each.x less c.requires.so_far serves sent in
+    (search (rules, falls), (omega (arith, c.requires.room, c.each.invariant.room, length-set c.each.images c.args.at c.each.x), (omega (arith, more), (c.requires.places, rw grown far))))
 
 pub returns-then-send-clause-sent : goal.returns-then-send-clause-sent
-returns-then-send-clause-sent t c = ?
+returns-then-send-clause-sent t c =
+    let room : c.args.at ≤ length c.args.images.now = omega (arith, c.requires.room, c.requires.within) in
+    let len : length (take c.args.at c.args.images.now) ≡ c.args.at = length-take-le c.args.at c.args.images.now room in
+    let more : c.args.at < length c.args.d.now.sorts = omega (arith, c.requires.within, c.if-at-len.false, c.len.ensures) in
+    let less : length (take c.args.at c.args.images.now) < length c.args.d.now.sorts = omega (arith, len, more) in
+    let sort = sym (c.at.ensures 0) ∙ c.if-at.false ∙ c.at-in-each.ensures 0 ∙ ap (slice_index c.args.d.now.sorts) (sym len) in
+    let serves : HasSort c.args.c.now.sorts c.each.x (slice_index c.args.d.now.sorts (length (take c.args.at c.args.images.now))) = record { within = omega (arith, c.each-test.true, c.len-x-end.ensures); sort = sort } in
+    let grown : take (c.args.at + 1) (set c.each.images c.args.at c.each.x) ≡ take c.args.at c.args.images.now ++ c.each.x ∷ [] = take-set_at c.each.images c.args.at (c.args.at + 1) c.each.x refl (omega (arith, c.requires.room, more, c.each.invariant.room)) ∙ ap (λ (zs : List ℕ). zs ++ c.each.x ∷ []) c.each.invariant.kept in
+    always (SendsFrom (take c.args.at c.args.images.now) c.args.d.now c.args.c.now)
+    (from-more (HasSort c.args.c.now.sorts) (BecomesOne c.args.c.now.lits) c.args.d.now.sorts c.args.d.now.lits (sent-stable c.args.c.now.lits) (take c.args.at c.args.images.now) c.each.x less serves (rw grown at (c.send.ensures.sent.0 c.if-send.true)))
 
 pub returns-then-send-clause-kept : goal.returns-then-send-clause-kept
 returns-then-send-clause-kept t c =
@@ -36,7 +52,11 @@ returns-then-send-clause-kept t c =
     still-begins c.args.at c.each.x c.send.new.images c.args.images.now room (c.send.ensures.kept ∙ grown)
 
 pub each-preserved-then-at : goal.each-preserved-then-at
-each-preserved-then-at t c = ?
+each-preserved-then-at t c = record {
+  kept = c.each.invariant.kept;
+  room = c.each.invariant.room;
+  before = below_more _ _ c.each.invariant.before (λ h _. c.if-at.true (c.at.ensures 0 ∙ h.sort ∙ sym (c.at-in-each.ensures 0)));
+}
 
 pub each-preserved-then-not-sends : goal.each-preserved-then-not-sends
 each-preserved-then-not-sends t c =
@@ -67,4 +87,11 @@ each-preserved t c =
     }
 
 pub returns-clause-sent : goal.returns-clause-sent
-returns-clause-sent t c = ?
+returns-clause-sent t c =
+    let room : c.args.at ≤ length c.args.images.now = omega (arith, c.requires.room, c.requires.within) in
+    let len : length (take c.args.at c.args.images.now) ≡ c.args.at = length-take-le c.args.at c.args.images.now room in
+    let more : c.args.at < length c.args.d.now.sorts = omega (arith, c.requires.within, c.if-at-len.false, c.len.ensures) in
+    let less : length (take c.args.at c.args.images.now) < length c.args.d.now.sorts = omega (arith, len, more) in
+    never (SendsFrom (take c.args.at c.args.images.now) c.args.d.now c.args.c.now)
+    (none-serves (HasSort c.args.c.now.sorts) (BecomesOne c.args.c.now.lits) c.args.d.now.sorts c.args.d.now.lits (sent-stable c.args.c.now.lits) (take c.args.at c.args.images.now) (length c.args.c.now.sorts) less (λ x s. s.within)
+    (λ x lt s. c.each.invariant.before x (omega (arith, lt, c.each-test.false, c.len-x-end.ensures)) (subst (λ k. HasSort c.args.c.now.sorts x (slice_index c.args.d.now.sorts k)) len s)))
