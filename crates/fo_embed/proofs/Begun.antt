@@ -1,14 +1,12 @@
 -- Maps that begin others, with one image more and one image less.
-use Rattle.std.proofs.Common.{◌≡◌, ℕ, zero, suc, ◌+◌, ◌-◌, ◌<◌, ◌≤◌, List, [], ◌∷◌, ◌++◌, length, get_or, set, map, take, refl, sym, ap, subst, ◌∙◌, arith, inl, inr, ◌⊎◌, length-append}
-use Rattle.std.specs.List.{AllZip}
-use Rattle.std.specs.Prelude.{slice_index}
+use Rattle.std.proofs.Common.{◌≡◌, ℕ, zero, suc, ◌+◌, ◌<◌, List, [], ◌∷◌, ◌++◌, length, get_or, take, refl, sym, ap, subst, ◌∙◌, arith, length-append}
 use Rattle.std.proofs.lemmas.Grind.{take_at_read}
-use Rattle.std.proofs.lemmas.List.{get_or-take, length-take-le, take-append-le, take_all}
+use Rattle.std.proofs.lemmas.List.{get_or-take, take_all}
 use Rattle.fo_core.specs.Embedding.{image, images}
 use Rattle.fo_core.specs.Runs.{AreElements}
 use Rattle.fo_embed.specs.Placing.{images_of, placed, with_image}
 use Rattle.fo_embed.specs.Searching.{Begin}
-use Rattle.fo_embed.proofs.Placed.{placed-at, sort-of}
+use Rattle.fo_embed.proofs.Placed.{placed-at}
 
 pub begin-length : (maps other : List (List ℕ)) → Begin maps other → length other ≡ length maps
 begin-length [] [] h = refl
@@ -54,7 +52,7 @@ begin-more [] other s y h in_ lt is = absurd (omega (arith, in_))
 begin-more (m ∷ maps) [] s y h in_ lt is = absurd h
 begin-more (m ∷ maps) (b ∷ other) zero y h in_ lt is = (
   ap (λ zs. zs ++ y ∷ []) h.0 ∙ ap (λ z. take (length m) b ++ z ∷ []) (sym is) ∙ sym (take_at_read b (length m) 0 lt).1
-  ∙ ap (λ n. take n b) (sym (length-append m (y ∷ []))),
+      ∙ ap (λ n. take n b) (sym (length-append m (y ∷ []))),
   h.1,
 )
 begin-more (m ∷ maps) (b ∷ other) (suc s) y h in_ lt is = (h.0, begin-more maps other s y h.1 (omega (arith, in_)) lt is)

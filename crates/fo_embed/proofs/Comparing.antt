@@ -1,16 +1,15 @@
 -- What agreeing tables say of all tuples of elements with images, and when maps that are given in full
 -- are an embedding.
-use Rattle.std.proofs.Common.{◌≡◌, ℕ, zero, suc, true, false, Bool, cond, ◌↔◌, ◌+◌, ◌*◌, ◌<◌, ◌≤◌, List, [], ◌∷◌, length, get_or, map, refl, sym, ap, subst, ◌∙◌, arith, inl, inr, ◌⊎◌}
-use Rattle.std.specs.List.{All, AllZip}
-use Rattle.std.specs.Prelude.{slice_index, IsTrue}
+use Rattle.std.proofs.Common.{◌≡◌, ℕ, false, cond, ◌↔◌, ◌+◌, ◌*◌, ◌<◌, ◌≤◌, List, [], ◌∷◌, length, sym, ap, subst, ◌∙◌, arith, inl, inr, ◌⊎◌}
+use Rattle.std.specs.List.{All}
+use Rattle.std.specs.Prelude.{slice_index}
 use Rattle.std.proofs.lemmas.Bool.{cases_lt}
 use Rattle.std.proofs.lemmas.List.{get_or_past}
 use Rattle.fo_core.specs.declared.signature.Sig.{Sig}
-use Rattle.fo_core.specs.declared.signature.Symbol.{Symbol}
 use Rattle.fo_core.specs.declared.world.World.{World}
 use Rattle.fo_core.specs.Runs.{AreElements}
-use Rattle.fo_core.specs.Tables.{no_symbol, symbol_at, tuples, place, table_of, entry, range_of, arg_sizes, Fits}
-use Rattle.fo_core.specs.Embedding.{image, images, AreInjections, IsEmbedding}
+use Rattle.fo_core.specs.Tables.{no_symbol, symbol_at, tuples, place, table_of, entry, arg_sizes}
+use Rattle.fo_core.specs.Embedding.{images, AreInjections, IsEmbedding}
 use Rattle.fo_core.proofs.TableLemmas.{table_is, place-lt}
 use Rattle.fo_core.proofs.PlaceLemmas.{elements-below}
 use Rattle.fo_embed.specs.Compared.{CanCompare}
@@ -54,11 +53,12 @@ module _ (sig : Sig) (v : World) (c : ℕ) (w : World) (d : ℕ) (h : CanCompare
   agrees-as maps k =
       let s = symbol_at sig k in
       let here = (table_of sig v c k).values in
-      let there = (table_of sig w d k).values in
-      (λ a xs e. subst (λ i. IsKept s maps (slice_index here i) (entry sig w d k (images maps s.args xs))) (zero-place v.sizes s.args xs)
-      (subst (λ i. IsKept s maps (slice_index here (place_from v.sizes s.args 0 xs)) (slice_index there i)) (zero-place w.sizes s.args (images maps s.args xs)) (a xs e)),
-      λ a xs e. subst (λ i. IsKept s maps (slice_index here i) (slice_index there (place_from w.sizes s.args 0 (images maps s.args xs)))) (sym (zero-place v.sizes s.args xs))
-      (subst (λ i. IsKept s maps (entry sig v c k xs) (slice_index there i)) (sym (zero-place w.sizes s.args (images maps s.args xs))) (a xs e)))
+      let there = (table_of sig w d k).values in (
+        λ a xs e. subst (λ i. IsKept s maps (slice_index here i) (entry sig w d k (images maps s.args xs))) (zero-place v.sizes s.args xs)
+            (subst (λ i. IsKept s maps (slice_index here (place_from v.sizes s.args 0 xs)) (slice_index there i)) (zero-place w.sizes s.args (images maps s.args xs)) (a xs e)),
+        λ a xs e. subst (λ i. IsKept s maps (slice_index here i) (slice_index there (place_from w.sizes s.args 0 (images maps s.args xs)))) (sym (zero-place v.sizes s.args xs))
+            (subst (λ i. IsKept s maps (entry sig v c k xs) (slice_index there i)) (sym (zero-place w.sizes s.args (images maps s.args xs))) (a xs e)),
+      )
 
   -- injective maps of all elements
   module _ (maps : List (List ℕ)) where

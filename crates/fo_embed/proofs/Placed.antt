@@ -1,7 +1,6 @@
 -- Which elements have an image, and what images are.
-use Rattle.std.proofs.Common.{◌≡◌, ℕ, zero, suc, ◌<◌, ◌≤◌, List, [], ◌∷◌, length, get_or, map, refl, sym, subst, ◌∙◌, arith}
-use Rattle.fo_core.specs.Embedding.{image, images}
-use Rattle.fo_embed.specs.Placing.{images_of, placed, IsPart}
+use Rattle.std.proofs.Common.{◌≡◌, ℕ, zero, suc, ◌<◌, List, [], ◌∷◌, length, get_or, refl, arith}
+use Rattle.fo_embed.specs.Placing.{images_of, placed}
 
 -- how many elements of a sort have an image
 pub placed-at : (maps : List (List ℕ)) (s : ℕ) → get_or (placed maps) s 0 ≡ length (images_of maps s)

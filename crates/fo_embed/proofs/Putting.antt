@@ -1,6 +1,6 @@
 -- One step of the search: the next element of a sort gets an image.
-use Rattle.std.proofs.Common.{◌≡◌, ℕ, zero, suc, true, false, Bool, ◌↔◌, ◌+◌, ◌-◌, ◌*◌, ◌<◌, ◌≤◌, List, [], ◌∷◌, ◌++◌, length, get_or, set, map, take, refl, sym, ap, subst, ◌∙◌, arith, inl, inr, ◌⊎◌, length-append}
-use Rattle.std.specs.List.{AllZip, Contains, concat, sum}
+use Rattle.std.proofs.Common.{◌≡◌, ℕ, zero, suc, ◌+◌, ◌-◌, ◌*◌, ◌<◌, ◌≤◌, List, [], ◌∷◌, ◌++◌, length, get_or, set, take, refl, sym, ap, subst, ◌∙◌, arith, inl, inr, ◌⊎◌, length-append}
+use Rattle.std.specs.List.{Contains, concat, sum}
 use Rattle.std.specs.Prelude.{slice_index}
 use Rattle.std.proofs.lemmas.Bool.{cases_lt, cases_eq, cases_order}
 use Rattle.std.proofs.lemmas.List.{get_or-set_same, get_or-set_other, length-set, get_or_append_left, get_or_push, get_or_default, get_or_past, take_at}
@@ -8,15 +8,15 @@ use Rattle.std.proofs.lemmas.List.Sums.{get_or-le-sum_by}
 use Rattle.fo_core.specs.declared.signature.Sig.{Sig}
 use Rattle.fo_core.specs.declared.world.World.{World}
 use Rattle.fo_core.specs.Tables.{symbol_at, entry}
-use Rattle.fo_core.specs.Embedding.{image, images, IsEmbedding}
+use Rattle.fo_core.specs.Embedding.{image, IsEmbedding}
 use Rattle.fo_core.specs.Runs.{AreElements}
 use Rattle.fo_core.specs.SortGraph.{ComesFirst}
 use Rattle.fo_embed.specs.Compared.{CanCompare, IsFirstEmbedding}
 use Rattle.fo_embed.specs.Placing.{images_of, placed, with_image, AreDistinct, IsPart, AllAgree}
 use Rattle.fo_embed.specs.Searching.{Begin, IsFilledTo, IsBegun, HasNoneBehind, HasNoneWith, IsFirstBehind}
-use Rattle.fo_embed.proofs.Placed.{placed-at, sort-of}
-use Rattle.fo_embed.proofs.Comparing.{part-of, injections-of, embedding-of}
-use Rattle.fo_embed.proofs.Begun.{begin-length, begin-self, begin-empty, begin-image, begin-images, begin-more, begin-less}
+use Rattle.fo_embed.proofs.Placed.{placed-at}
+use Rattle.fo_embed.proofs.Comparing.{injections-of, embedding-of}
+use Rattle.fo_embed.proofs.Begun.{begin-self, begin-empty, begin-image, begin-images, begin-more, begin-less}
 use Rattle.fo_embed.proofs.Ordered.{comes-self, comes-before, begun-full}
 
 size-le : (sizes : List ℕ) (s : ℕ) → slice_index sizes s ≤ sum sizes

@@ -1,5 +1,5 @@
 -- Walks over two tables, element by element.
-use Rattle.std.proofs.Common.{◌≡◌, ℕ, zero, suc, true, false, Bool, ◌↔◌, ◌+◌, ◌-◌, ◌*◌, ◌^◌, ◌<◌, ◌≤◌, List, [], ◌∷◌, length, get_or, map, take, drop, refl, sym, ap, ap₂, subst, ◌∙◌, arith, inl, inr, ◌⊎◌}
+use Rattle.std.proofs.Common.{◌≡◌, ℕ, true, false, Bool, ◌↔◌, ◌+◌, ◌-◌, ◌*◌, ◌<◌, ◌≤◌, List, [], ◌∷◌, length, get_or, take, drop, refl, sym, subst, ◌∙◌, arith}
 use Rattle.std.specs.List.{All}
 use Rattle.std.specs.Prelude.{slice_index, IsTrue}
 use Rattle.std.proofs.Math.Nat.{mul-le-mul_right, le-mul_of_pos_right}
@@ -8,13 +8,11 @@ use Rattle.std.proofs.lemmas.List.{take_all, get_or_default}
 use Rattle.std.proofs.lemmas.List.Elements.{All-nil, All-cons, All-head, All-tail}
 use Rattle.fo_core.specs.declared.signature.Symbol.{Symbol}
 use Rattle.fo_core.specs.declared.world.World.{World}
-use Rattle.fo_core.specs.Runs.{AreElements}
-use Rattle.fo_core.specs.Tables.{tuples, place}
+use Rattle.fo_core.specs.Tables.{tuples}
 use Rattle.fo_core.specs.Embedding.{image, images}
 use Rattle.fo_core.proofs.Answered.{never, always}
-use Rattle.fo_core.proofs.ListFacts.{all_mapped}
 use Rattle.fo_core.proofs.TableLemmas.{tuples-positive}
-use Rattle.fo_embed.specs.Placing.{images_of, placed, IsPart, IsKept}
+use Rattle.fo_embed.specs.Placing.{images_of, IsKept}
 use Rattle.fo_embed.specs.Asked.{CanWalk, IsBlock, AgreeFrom, sizes_at, place_from}
 use Rattle.fo_embed.proofs.Placed.{placed-at}
 

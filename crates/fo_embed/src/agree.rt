@@ -54,7 +54,12 @@ fn agree_from(
     ensures { IsTrue result ↔ AgreeFrom states.now.from.now.sizes states.now.to.now.sizes maps.now tables.now.symbol.now tables.now.here.now tables.now.there.now sorts.now at to }
 {
     if sorts.is_empty() {
-        return is_kept(tables.symbol, maps, *tables.here.at(at), *tables.there.at(to));
+        return is_kept(
+            tables.symbol,
+            maps,
+            *tables.here.at(at),
+            *tables.there.at(to),
+        );
     }
     let _cells = tables.here.len();
     let _cells_to = tables.there.len();

@@ -66,9 +66,11 @@ fn is_first(
     match find_embedding(alloc, sig, s, 0, t, 0)? {
         Some(found) => {
             let copy = found.copy(alloc)?;
-            Ok(is_embedding(sig, s, 0, t, 0, &copy)
-                && copy.images.len() == 1
-                && copy.images.at(0).as_slice() == images)
+            Ok(
+                is_embedding(sig, s, 0, t, 0, &copy)
+                    && copy.images.len() == 1
+                    && copy.images.at(0).as_slice() == images,
+            )
         }
         None => Ok(false),
     }

@@ -53,9 +53,10 @@ module _ (sig : Sig) (w : World) (c d : ℕ) where
         (λ t. sym e ∙ t, λ t. e ∙ t)
 
     all-are : (lits : List Flat) → Truth sig w c (F.And (map (flat_formula sig d) lits)) vs ↔ All (IsTrueFlat sig w (c + d) vs) lits
-    all-are lits =
-        (λ t. all_as (λ lit. Truth sig w c (flat_formula sig d lit) vs) (IsTrueFlat sig w (c + d) vs) lits (λ lit. (flat-is lit).0) (all_map (λ f. Truth sig w c f vs) (flat_formula sig d) lits ((truth-And sig w c (map (flat_formula sig d) lits) vs).0 t)),
-        λ h. (truth-And sig w c (map (flat_formula sig d) lits) vs).1 (all_mapped (λ f. Truth sig w c f vs) (flat_formula sig d) lits (all_as (IsTrueFlat sig w (c + d) vs) (λ lit. Truth sig w c (flat_formula sig d lit) vs) lits (λ lit. (flat-is lit).1) h)))
+    all-are lits = (
+      λ t. all_as (λ lit. Truth sig w c (flat_formula sig d lit) vs) (IsTrueFlat sig w (c + d) vs) lits (λ lit. (flat-is lit).0) (all_map (λ f. Truth sig w c f vs) (flat_formula sig d) lits ((truth-And sig w c (map (flat_formula sig d) lits) vs).0 t)),
+      λ h. (truth-And sig w c (map (flat_formula sig d) lits) vs).1 (all_mapped (λ f. Truth sig w c f vs) (flat_formula sig d) lits (all_as (IsTrueFlat sig w (c + d) vs) (λ lit. Truth sig w c (flat_formula sig d lit) vs) lits (λ lit. (flat-is lit).1) h)),
+    )
 
     flat-told : (lit : Flat) → IsTrueFlat sig w (c + d) vs lit ⊎ (¬ IsTrueFlat sig w (c + d) vs lit)
     flat-told lit = by_truth (tell sig w c (flat_formula sig d lit) vs)
@@ -65,9 +66,10 @@ module _ (sig : Sig) (w : World) (c d : ℕ) where
         by_truth (inr n) = inr (λ h. n ((flat-is lit).1 h))
 
   pub claim_is : (cube : Cube) → Truth sig w c (claim sig cube d) [] ↔ Meets sig w (c + d) cube
-  claim_is cube =
-      (λ t. let s = some_over-from sig w c cube.sorts (F.And (map (flat_formula sig d) cube.lits)) [] t in (s.0, s.1, (all-are s.0 cube.lits).0 s.2),
-      λ m. some_over-to sig w c cube.sorts (F.And (map (flat_formula sig d) cube.lits)) [] m.0 m.1 ((all-are m.0 cube.lits).1 m.2))
+  claim_is cube = (
+    λ t. let s = some_over-from sig w c cube.sorts (F.And (map (flat_formula sig d) cube.lits)) [] t in (s.0, s.1, (all-are s.0 cube.lits).0 s.2),
+    λ m. some_over-to sig w c cube.sorts (F.And (map (flat_formula sig d) cube.lits)) [] m.0 m.1 ((all-are m.0 cube.lits).1 m.2),
+  )
 
   pub clause_is : (cube : Cube) → Truth sig w c (clause sig cube d) [] ↔ (¬ Meets sig w (c + d) cube)
   clause_is cube = (there, here)

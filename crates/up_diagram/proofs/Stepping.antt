@@ -27,11 +27,6 @@ one-behind xs n lt = let e : suc n ≡ n + 1 = omega arith in behind-one xs n lt
 
 module _ (Serves : ℕ → ℕ → Type 0) (Holds : List ℕ → Flat → Type 0) (sorts : List ℕ) (lits : List Flat)
     (stable : (xs ys : List ℕ) (lit : Flat) → bound lit ≤ length xs → Holds (xs ++ ys) lit ↔ Holds xs lit) where
-
-
-
-
-
   pub none-yet : HoldsLast Serves Holds sorts lits [] → HoldsSoFar Serves Holds sorts lits []
   none-yet h = record { values = tt; lits = λ k lit lt le. h k lit lt (omega (arith, le)) }
 

@@ -32,9 +32,10 @@ chosen-elements sizes picks sorts e [] (s ∷ wanted) h z = absurd z
 chosen-elements sizes picks sorts e (v ∷ vs) [] h z = absurd z
 chosen-elements sizes picks sorts e (v ∷ vs) (s ∷ wanted) h z =
     let lt = All-head (λ v. v < length picks) v vs h in
-    let is : get_or (take (length picks) sorts) v 0 ≡ s = get_or-take (length picks) sorts v 0 lt ∙ z.0.sort in
-    (subst (λ s. slice_index picks v < slice_index sizes s) is (AllZip-at (λ x s. x < slice_index sizes s) picks (take (length picks) sorts) v 0 0 e lt),
-    chosen-elements sizes picks sorts e vs wanted (All-tail (λ v. v < length picks) v vs h) z.1)
+    let is : get_or (take (length picks) sorts) v 0 ≡ s = get_or-take (length picks) sorts v 0 lt ∙ z.0.sort in (
+      subst (λ s. slice_index picks v < slice_index sizes s) is (AllZip-at (λ x s. x < slice_index sizes s) picks (take (length picks) sorts) v 0 0 e lt),
+      chosen-elements sizes picks sorts e vs wanted (All-tail (λ v. v < length picks) v vs h) z.1,
+    )
 
 module _ (sig : Sig) (w : World) (c : ℕ) where
   pub true-stable : (xs ys : List ℕ) (lit : Flat) → bound lit ≤ length xs → IsTrueFlat sig w c (xs ++ ys) lit ↔ IsTrueFlat sig w c xs lit

@@ -50,7 +50,11 @@ fn flat_formula(alloc: Global, sig: &Sig, copy: u32, lit: &Flat) -> Result<Formu
         Flat::Differ(i, j) => signed(alloc, false, Formula::Eq(Term::Var(*i), Term::Var(*j))),
         Flat::Fact(sign, r, variables) => {
             let args = terms(alloc, variables.as_slice())?;
-            signed(alloc, *sign, Formula::Rel(*r, copy_for(sig, copy, *r), args))
+            signed(
+                alloc,
+                *sign,
+                Formula::Rel(*r, copy_for(sig, copy, *r), args),
+            )
         }
         Flat::Value(f, variables, v) => {
             let args = terms(alloc, variables.as_slice())?;

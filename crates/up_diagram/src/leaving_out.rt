@@ -66,11 +66,7 @@ fn places_of(alloc: Global, marks: &[bool]) -> Result<Vec<usize>, AllocError>
 }
 
 /// The variables' places.
-fn renamed_each(
-    alloc: Global,
-    places: &[usize],
-    variables: &[u32],
-) -> Result<Seq<u32>, AllocError>
+fn renamed_each(alloc: Global, places: &[usize], variables: &[u32]) -> Result<Seq<u32>, AllocError>
     requires within { All (λ v. v < length places.now) variables.now }
     requires small { (v : ℕ) → v < 2 ^ 32 → slice_index places.now v < 2 ^ 32 }
     ensures { IfOk result (λ vs. vs ≡ map (slice_index places.now) variables.now) }

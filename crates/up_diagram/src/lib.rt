@@ -14,10 +14,10 @@ pub use claims::{claim, clause};
 pub use covering::{covers, covers_in};
 pub use cube::{Cube, Flat};
 pub use describing::diagram;
-pub use meeting::meets;
-pub use picks::Picks;
 pub use laws::{covers_are_met, less_is_met, sentences_are_well_sorted, sentences_say_what_is_met};
 pub use leaving_out::without;
+pub use meeting::meets;
+pub use picks::Picks;
 
 #[cfg(test)]
 mod tests;

@@ -1,11 +1,8 @@
-use Rattle.std.proofs.Common.{◌≡◌, ◌∙◌, ◌+◌, ◌-◌, ◌*◌, ◌<◌, ◌≤◌, ℕ, List, [], length, get_or, take, drop, sym, ap, subst, arith, rules, below_more}
+use Rattle.std.proofs.Common.{◌≡◌, ◌-◌, ◌<◌, ◌≤◌, ℕ, List, length, get_or, take, drop, subst, arith, rules, below_more}
 use Rattle.std.proofs.lemmas.Bool.Decides.{nat_tests}
 use Rattle.std.proofs.lemmas.Grind.{common_steps}
-use Rattle.std.specs.Prelude.{slice_index}
-use Rattle.fo_core.specs.Embedding.{image}
 use Rattle.fo_core.proofs.Answered.{false_from}
 use Rattle.fo_embed.specs.Placing.{images_of}
-use Rattle.fo_embed.specs.Asked.{AgreeFrom}
 use Rattle.fo_embed.proofs.Walking.{walk-more, walk-sort, next-here, next-there, items-are, agree-none, agree-false, agree-true, rest_of}
 use Rattle.fo_embed.proofs.agree.+agree_from.Goals as goal
 

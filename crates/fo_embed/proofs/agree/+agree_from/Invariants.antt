@@ -1,4 +1,4 @@
-use Rattle.std.proofs.Common.{length, ◌≡◌, ℕ, ◌+◌, ◌*◌, ◌<◌, drop}
+use Rattle.std.proofs.Common.{length, ℕ, ◌+◌, ◌*◌, ◌<◌, drop}
 use Rattle.fo_core.specs.Embedding.{image}
 use Rattle.fo_embed.specs.Asked.{AgreeFrom}
 use Rattle.fo_embed.proofs.agree.+agree_from.Given as goal

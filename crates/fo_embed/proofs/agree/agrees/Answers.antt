@@ -1,4 +1,3 @@
-use Rattle.std.proofs.Common.{◌∙◌, arith}
 use Rattle.fo_core.specs.Tables.{no_symbol}
 use Rattle.fo_core.proofs.Answered.{answered}
 use Rattle.fo_embed.proofs.Comparing.{walk-symbol, block-here, block-there, agrees-as}

@@ -1,4 +1,3 @@
-use Rattle.std.proofs.Common.{◌∙◌}
 use Rattle.fo_core.proofs.Answered.{answered}
 use Rattle.fo_embed.proofs.Comparing.{embedding-of, agree-of}
 use Rattle.fo_embed.proofs.embedding.is_embedding.Goals as goal

@@ -1,10 +1,10 @@
-use Rattle.std.proofs.Common.{◌≡◌, ◌∙◌, ◌++◌, length, drop, sym, ap, subst, arith}
+use Rattle.std.proofs.Common.{◌≡◌, ◌∙◌, length, drop, sym, ap, subst, arith}
 use Rattle.std.proofs.lemmas.List.{take_at}
 use Rattle.fo_core.proofs.Answered.{false_from}
 use Rattle.fo_embed.specs.Compared.{IsFirstEmbedding}
 use Rattle.fo_embed.specs.Searching.{IsFirstBehind}
 use Rattle.fo_embed.proofs.Begun.{begin-length}
-use Rattle.fo_embed.proofs.Putting.{part-empty, begun-empty, none-disagree, none-at-all, first-of-all}
+use Rattle.fo_embed.proofs.Putting.{none-disagree, none-at-all, first-of-all}
 use Rattle.fo_embed.proofs.search.find_embedding.Goals as goal
 
 pub returns-then-not-all_agree : goal.returns-then-not-all_agree
