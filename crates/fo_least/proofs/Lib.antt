@@ -1,3 +1,4 @@
+pub mod AskedInTurn
 pub mod Built
 pub mod Beginnings
 pub mod CellLemmas
@@ -19,6 +20,7 @@ pub mod Pieces
 pub mod Pigeons
 pub mod Renamed
 pub mod Settled
+pub mod SomeLeast
 pub mod TrialEdges
 pub mod TrialMeaning
 pub mod TrialSorted

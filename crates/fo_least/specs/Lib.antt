@@ -1,4 +1,5 @@
 pub mod Asked
+pub mod Begins
 pub mod Cells
 pub mod Least
 pub mod Trials
