@@ -1,9 +1,13 @@
 pub mod AgreeLemmas
+pub mod Alike
 pub mod Answered
+pub mod Binders
 pub mod CountLemmas
 pub mod Decided
 pub mod EdgeRows
+pub mod ListFacts
 pub mod MoreCopies
+pub mod Pieces
 pub mod PlaceLemmas
 pub mod Rows
 pub mod ShiftEdges
@@ -11,5 +15,6 @@ pub mod ShiftRows
 pub mod ShiftTruth
 pub mod SortedLemmas
 pub mod TableLemmas
+pub mod TupleLemmas
 pub mod ValueLemmas
 pub mod Zips

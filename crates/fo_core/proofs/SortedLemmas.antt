@@ -2,11 +2,11 @@
 use Rattle.std.proofs.Common.{◌≡◌, ℕ, true, false, Bool, ◌↔◌, ◌+◌, ◌<◌, ◌≤◌, List, [], ◌∷◌, ◌++◌, length, get_or, sym, subst, arith}
 use Rattle.std.specs.Prelude.{IsTrue}
 use Rattle.std.specs.List.{AllZip}
-use Rattle.fo_core.specs.declared.syntax.Sig.{Sig}
-use Rattle.fo_core.specs.declared.syntax.Term.{Term}
-use Rattle.fo_core.specs.declared.syntax.Term.TheVariants.{App}
-use Rattle.fo_core.specs.declared.syntax.Formula.{Formula}
-use Rattle.fo_core.specs.declared.syntax.Formula.TheVariants as F
+use Rattle.fo_core.specs.declared.signature.Sig.{Sig}
+use Rattle.fo_core.specs.declared.term.Term.{Term}
+use Rattle.fo_core.specs.declared.term.Term.TheVariants.{App}
+use Rattle.fo_core.specs.declared.formula.Formula.{Formula}
+use Rattle.fo_core.specs.declared.formula.Formula.TheVariants as F
 use Rattle.fo_core.specs.Tables.{symbol_at}
 use Rattle.fo_core.specs.Sorted.{IsSymbol, IsTerm, IsFormula, binders}
 use Rattle.fo_core.proofs.Answered.{never, always, answered, fails_at, all_seen}

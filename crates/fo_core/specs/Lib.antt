@@ -1,6 +1,11 @@
 pub mod Agreeing
+pub mod Asked
+pub mod Cells
+pub mod Embedding
 pub mod Finds
+pub mod Least
 pub mod Named
+pub mod Over
 pub mod Queries
 pub mod QueryWeight
 pub mod Runs
@@ -10,6 +15,9 @@ pub mod SortGraph
 pub mod Sorted
 pub mod Tables
 pub mod TermCounts
+pub mod Trials
 pub mod Truth
+pub mod Tuples
+pub mod Universal
 pub mod Weights
 pub mod formers

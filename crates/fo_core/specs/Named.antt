@@ -1,7 +1,7 @@
 -- The names of sorts, symbols and transitions.
 use Rattle.std.specs.Prelude.{◌≡◌, ℕ, ◌≤◌, ◌<◌, List, [], ◌∷◌, length, slice_index_or, ◌⊎◌}
 use Rattle.std.specs.List.{All}
-use Rattle.fo_core.specs.declared.syntax.Sig.{Sig}
+use Rattle.fo_core.specs.declared.signature.Sig.{Sig}
 use Rattle.fo_core.specs.declared.names.Names.{Names}
 
 -- a letter from A to Z or a to z, or `_`

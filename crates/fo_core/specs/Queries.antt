@@ -1,7 +1,7 @@
 -- Queries: claims about worlds of some copies.
 use Rattle.std.specs.Prelude.{◌≡◌, ◌≤◌, [], length}
 use Rattle.std.specs.List.{All}
-use Rattle.fo_core.specs.declared.syntax.Sig.{Sig}
+use Rattle.fo_core.specs.declared.signature.Sig.{Sig}
 use Rattle.fo_core.specs.declared.query.Query.{Query}
 use Rattle.fo_core.specs.declared.world.World.{World}
 use Rattle.fo_core.specs.Sorted.{IsFormula}

@@ -1,8 +1,8 @@
 -- The weight of a query: how much there is once all is instantiated by ground terms.
 use Rattle.std.specs.Prelude.{ℕ, ◌+◌, ◌*◌, min, true, List, [], slice_index}
 use Rattle.fo_core.specs.declared.query.Query.{Query}
-use Rattle.fo_core.specs.declared.syntax.Sig.{Sig}
-use Rattle.fo_core.specs.declared.syntax.Symbol.{Symbol}
+use Rattle.fo_core.specs.declared.signature.Sig.{Sig}
+use Rattle.fo_core.specs.declared.signature.Symbol.{Symbol}
 use Rattle.fo_core.specs.Skolems.{skolem_symbols_list, extended}
 use Rattle.fo_core.specs.Weights.{added, power, claim_nodes}
 use Rattle.fo_core.specs.TermCounts.{copies_of, term_counts}

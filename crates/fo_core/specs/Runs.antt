@@ -1,8 +1,8 @@
 -- States, steps and runs of a transition system.
 use Rattle.std.specs.Prelude.{◌≡◌, ℕ, ◌+◌, ◌-◌, ◌<◌, ◌≤◌, true, List, [], ◌∷◌, length, slice_index, slice_index_or}
 use Rattle.std.specs.List.{All, Any, AllZip, Contains}
-use Rattle.fo_core.specs.declared.syntax.System.{System}
-use Rattle.fo_core.specs.declared.syntax.Step.{Step}
+use Rattle.fo_core.specs.declared.system.System.{System}
+use Rattle.fo_core.specs.declared.system.Step.{Step}
 use Rattle.fo_core.specs.declared.world.World.{World}
 use Rattle.fo_core.specs.Tables.{Fits, symbol_at, table_of}
 use Rattle.fo_core.specs.Truth.{Truth}

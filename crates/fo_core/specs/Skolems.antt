@@ -1,8 +1,8 @@
 -- The Skolem symbols of a formula, and signatures with more symbols.
 use Rattle.std.specs.Prelude.{ℕ, Bool, true, false, not, List, [], ◌∷◌, ◌++◌}
-use Rattle.fo_core.specs.declared.syntax.Sig.{Sig}
-use Rattle.fo_core.specs.declared.syntax.Symbol.{Symbol}
-use Rattle.fo_core.specs.declared.syntax.Formula.{Formula, Not', And', Or', All', Ex', Row_of-Formula, end_of-Formula, more_of-Formula}
+use Rattle.fo_core.specs.declared.signature.Sig.{Sig}
+use Rattle.fo_core.specs.declared.signature.Symbol.{Symbol}
+use Rattle.fo_core.specs.declared.formula.Formula.{Formula, Not', And', Or', All', Ex', Row_of-Formula, end_of-Formula, more_of-Formula}
 
 -- the Skolem function of an existential of sort s under universals of the sorts us
 abbrev pub skolem : List ℕ → ℕ → Symbol

@@ -1,12 +1,12 @@
 -- When terms, formulas and systems fit a signature.
 use Rattle.std.specs.Prelude.{◌≡◌, ℕ, ◌+◌, ◌-◌, ◌^◌, ◌<◌, ◌≤◌, max, Bool, true, false, cond, List, [], ◌∷◌, ◌++◌, length, slice_index, ⊤}
 use Rattle.std.specs.List.{All, AllZip}
-use Rattle.fo_core.specs.declared.syntax.Sig.{Sig}
-use Rattle.fo_core.specs.declared.syntax.Step.{Step}
-use Rattle.fo_core.specs.declared.syntax.Symbol.{Symbol}
-use Rattle.fo_core.specs.declared.syntax.System.{System}
-use Rattle.fo_core.specs.declared.syntax.Term.{Term, Var, App', Row_of-Term, end_of-Term, more_of-Term}
-use Rattle.fo_core.specs.declared.syntax.Formula.{Formula, True, False, Rel, Eq, Not', And', Or', All', Ex', Row_of-Formula, end_of-Formula, more_of-Formula}
+use Rattle.fo_core.specs.declared.signature.Sig.{Sig}
+use Rattle.fo_core.specs.declared.system.Step.{Step}
+use Rattle.fo_core.specs.declared.signature.Symbol.{Symbol}
+use Rattle.fo_core.specs.declared.system.System.{System}
+use Rattle.fo_core.specs.declared.term.Term.{Term, Var, App', Row_of-Term, end_of-Term, more_of-Term}
+use Rattle.fo_core.specs.declared.formula.Formula.{Formula, True, False, Rel, Eq, Not', And', Or', All', Ex', Row_of-Formula, end_of-Formula, more_of-Formula}
 use Rattle.fo_core.specs.Tables.{symbol_at}
 
 -- the symbol k is a relation, or a function, as asked, and may be read in copy d: a mutable one in

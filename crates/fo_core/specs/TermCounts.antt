@@ -1,8 +1,8 @@
 -- How many ground terms a signature has.
 use Rattle.std.specs.Prelude.{◌≡◌, ℕ, zero, suc, ◌*◌, ◌<◌, ◌==◌, ◌&&◌, Bool, not, cond, List, [], length, map, slice_index}
 use Rattle.std.specs.List.{filter, range_with_len}
-use Rattle.fo_core.specs.declared.syntax.Sig.{Sig}
-use Rattle.fo_core.specs.declared.syntax.Symbol.{Symbol}
+use Rattle.fo_core.specs.declared.signature.Sig.{Sig}
+use Rattle.fo_core.specs.declared.signature.Symbol.{Symbol}
 use Rattle.fo_core.specs.Weights.{added, power}
 
 -- whether the symbol is a function with values of sort t

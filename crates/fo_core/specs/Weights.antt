@@ -1,7 +1,7 @@
 -- How often the nodes of formulas stand for something else, where universals range over so many values.
 use Rattle.std.specs.Prelude.{ℕ, ◌+◌, Bool, true, false, not, List, [], ◌∷◌, ◌++◌, map, slice_index}
-use Rattle.fo_core.specs.declared.syntax.Symbol.{Symbol}
-use Rattle.fo_core.specs.declared.syntax.Formula.{Formula, Not', And', Or', All', Ex', Row_of-Formula, end_of-Formula, more_of-Formula}
+use Rattle.fo_core.specs.declared.signature.Symbol.{Symbol}
+use Rattle.fo_core.specs.declared.formula.Formula.{Formula, Not', And', Or', All', Ex', Row_of-Formula, end_of-Formula, more_of-Formula}
 use Rattle.fo_core.specs.Tables.{tuples}
 
 -- the sum of a number for each element of a list

@@ -1,12 +1,9 @@
 ghost use Rattle.std.specs.Prelude.{◌≡◌, ℕ, IfOk};
-ghost use Rattle.fo_core.specs.Finds.{IsAnswer};
-ghost use Rattle.fo_core.specs.Queries.{IsQuery};
-ghost use Rattle.fo_core.specs.SortGraph.{ClaimsEdge, Rises};
-ghost use Rattle.fo_core.specs.Sorted.{IsSig};
+ghost use Rattle.fo_core.specs.Finds.{CanSearch, IsAnswer};
 
 use crate::order::Order;
 use crate::query::Query;
-use crate::syntax::System;
+use crate::system::System;
 use crate::world::World;
 use std::alloc::{AllocError, Global};
 
@@ -20,6 +17,19 @@ pub enum Found {
     /// The query is heavier than the finder's limit: its weight, cut at the greatest number of 64
     /// bits.
     Over(u64),
+}
+
+impl Found {
+    /// A copy.
+    pub fn copy(&self, alloc: Global) -> Result<Found, AllocError>
+        ensures { IfOk result (λ f. f ≡ self.now) }
+    {
+        Ok(match self {
+            Found::Model(world) => Found::Model(world.copy(alloc)?),
+            Found::Nothing => Found::Nothing,
+            Found::Over(weight) => Found::Over(*weight),
+        })
+    }
 }
 
 /// A complete search for worlds that meet queries: finite model finding for stratified many-sorted
@@ -38,11 +48,17 @@ pub trait Finder {
         order: &Order,
         q: &Query,
     ) -> Result<Found, AllocError>
-        requires sig { IsSig sys.now.sig }
-        requires query { IsQuery sys.now.sig q.now }
-        requires order { Rises (ClaimsEdge sys.now.sig q.now.claims) sys.now.sig.sorts order.now.numbers }
+        requires search { CanSearch sys.now order.now q.now }
         ensures found { IfOk result (IsAnswer sys.now.sig q.now (limit self.old)) }
         ensures limit { limit self.new ≡ limit self.old };
+
+    /// After an answer that no world meets the query: whether the search used this member of the
+    /// conjunction in the query's last claim, where that is a conjunction below existentials. `None`
+    /// says that the finder doesn't know. It is a hint, and no clause rests on it: a caller has to
+    /// ask what it concludes from it.
+    fn used(&self, _member: u32) -> Option<bool> {
+        None
+    }
 }
 
 /// What makes finders of one limit, for threads that each want one of their own.

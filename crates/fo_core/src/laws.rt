@@ -1,10 +1,10 @@
 //! Laws about the definitions, each the contract of a function that does nothing.
 
 ghost use Rattle.std.specs.Prelude.{◌≡◌, ◌⊎◌, ◌↔◌, ◌++◌, ◌+◌, ℕ, List, [], length};
-ghost use Rattle.fo_core.specs.declared.syntax.Sig.{Sig};
-ghost use Rattle.fo_core.specs.declared.syntax.Term.{Term};
-ghost use Rattle.fo_core.specs.declared.syntax.Formula.{Formula};
-ghost use Rattle.fo_core.specs.declared.syntax.System.{System};
+ghost use Rattle.fo_core.specs.declared.signature.Sig.{Sig};
+ghost use Rattle.fo_core.specs.declared.term.Term.{Term};
+ghost use Rattle.fo_core.specs.declared.formula.Formula.{Formula};
+ghost use Rattle.fo_core.specs.declared.system.System.{System};
 ghost use Rattle.fo_core.specs.declared.world.World.{World};
 ghost use Rattle.fo_core.specs.Truth.{Truth, value};
 ghost use Rattle.fo_core.specs.Sorted.{IsTerm, IsFormula, IsSystem};

@@ -1,9 +1,10 @@
-ghost use Rattle.std.specs.Prelude.{◌≡◌, ◌↔◌, ◌<◌, ℕ, IsTrue, length, slice_index_or, []};
+ghost use Rattle.std.specs.Prelude.{◌≡◌, ◌↔◌, ◌<◌, ℕ, IsTrue, IfOk, length, slice_index_or, []};
 ghost use Rattle.fo_core.specs.Named.{BeginsWord, ContinuesWord, IsWord, AreDistinct, AreNames, NamesFit};
 
 use crate::seq::Seq;
-use crate::syntax::Sig;
+use crate::signature::Sig;
 use crate::text::Text;
+use std::alloc::{AllocError, Global};
 
 /// The names of sorts, symbols and transitions, each in the order of their numbers.
 #[derive(Debug, Drop)]
@@ -78,5 +79,16 @@ impl Names {
         are_names(sig.sorts as usize, self.sorts.as_slice())
             && are_names(sig.symbols.len(), self.symbols.as_slice())
             && are_names(steps, self.steps.as_slice())
+    }
+
+    /// A copy.
+    pub fn copy(&self, alloc: Global) -> Result<Names, AllocError>
+        ensures { IfOk result (λ x. x ≡ self.now) }
+    {
+        Ok(Names {
+            sorts: self.sorts.copy(alloc)?,
+            symbols: self.symbols.copy(alloc)?,
+            steps: self.steps.copy(alloc)?,
+        })
     }
 }

@@ -87,3 +87,12 @@ impl<T: Drop> Seq<T> {
         Ok(())
     }
 }
+
+impl Seq<u32> {
+    /// A copy.
+    pub fn copy(&self, alloc: Global) -> Result<Seq<u32>, AllocError>
+        ensures { IfOk result (λ s. s ≡ self.now) }
+    {
+        Ok(Seq::from_vec(self.as_slice().to_vec(alloc)?))
+    }
+}

@@ -9,7 +9,9 @@ ghost use Rattle.fo_core.specs.Shift.{moved as moved_of, shift, shift_term, CanS
 
 use crate::boxed::Boxed;
 use crate::seq::Seq;
-use crate::syntax::{Formula, Sig, Term};
+use crate::formula::Formula;
+use crate::signature::Sig;
+use crate::term::Term;
 use std::alloc::{AllocError, Global};
 
 /// The copy of which a symbol speaks after the move.

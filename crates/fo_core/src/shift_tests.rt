@@ -1,5 +1,5 @@
 ghost use Rattle.std.specs.Prelude.{◌≡◌, [], ◌∷◌, true, false, IfOk};
-ghost use Rattle.fo_core.specs.declared.syntax.Formula.TheVariants as F;
+ghost use Rattle.fo_core.specs.declared.formula.Formula.TheVariants as F;
 
 use crate::{Boxed, Formula, Query, Seq, Sig, Symbol, shifted};
 use std::alloc::{AllocError, Global};

@@ -1,8 +1,10 @@
-ghost use Rattle.std.specs.Prelude.{◌≡◌, ◌↔◌, ℕ, IsTrue, IfOk, OnOk};
+ghost use Rattle.std.specs.Prelude.{◌≡◌, ◌↔◌, ℕ, IsTrue, IfOk, OnOk, []};
 ghost use Rattle.std.specs.List.{All, AllZip};
-ghost use Rattle.fo_core.specs.Sorted.{IsSymbol, IsTerm, IsFormula, AreClosed, HasSorts, IsSig, IsStepOf, IsSystem};
+ghost use Rattle.fo_core.specs.Sorted.{IsSymbol, IsTerm, IsFormula, AreClosed};
 
-use crate::syntax::{Formula, Sig, Step, Symbol, System, Term};
+use crate::formula::Formula;
+use crate::signature::Sig;
+use crate::term::Term;
 use std::alloc::{AllocError, Global};
 
 /// Whether this is a relation or a function, as asked, that may be read in the copy.
@@ -81,7 +83,7 @@ fn have_one_sort(sig: &Sig, copies: u32, scope: &[u32], a: &Term, b: &Term) -> b
 
 /// Whether the formula is well-sorted under variables of the sorts in `scope`, which ends as it
 /// began.
-fn is_formula(sig: &Sig, copies: u32, scope: &mut Vec<u32>, f: &Formula) -> Result<bool, AllocError>
+pub fn is_formula(sig: &Sig, copies: u32, scope: &mut Vec<u32>, f: &Formula) -> Result<bool, AllocError>
     ensures sorted { IfOk result (λ b. IsTrue b ↔ IsFormula sig.now copies f.now scope.old.items) }
     ensures same { OnOk result (scope.new.items ≡ scope.old.items) }
 {
@@ -133,82 +135,27 @@ fn is_formula(sig: &Sig, copies: u32, scope: &mut Vec<u32>, f: &Formula) -> Resu
     }
 }
 
-/// Whether the formulas are closed and well-sorted, and speak of copy 0 alone.
-fn are_closed(alloc: Global, sig: &Sig, fs: &[Formula]) -> Result<bool, AllocError>
-    ensures { IfOk result (λ b. IsTrue b ↔ AreClosed sig.now fs.now) }
+/// Whether the formulas are closed and well-sorted, and speak of copies below `copies` alone.
+pub fn are_formulas(
+    alloc: Global,
+    sig: &Sig,
+    copies: u32,
+    fs: &[Formula],
+) -> Result<bool, AllocError>
+    ensures { IfOk result (λ b. IsTrue b ↔ All (λ f. IsFormula sig.now copies f []) fs.now) }
 {
     let mut scope = Vec::new(alloc);
     'each: for f in fs {
-        if !is_formula(sig, 1, &mut scope, f)? {
+        if !is_formula(sig, copies, &mut scope, f)? {
             return Ok(false);
         }
     }
     Ok(true)
 }
 
-/// Whether the sorts of the symbol are below the number.
-fn has_sorts(sorts: u32, symbol: &Symbol) -> bool
-    ensures { IsTrue result ↔ HasSorts sorts symbol.now }
+/// Whether the formulas are closed and well-sorted, and speak of copy 0 alone.
+pub fn are_closed(alloc: Global, sig: &Sig, fs: &[Formula]) -> Result<bool, AllocError>
+    ensures { IfOk result (λ b. IsTrue b ↔ AreClosed sig.now fs.now) }
 {
-    symbol.args.as_slice().iter().all(|s| *s < sorts) && (symbol.relation || symbol.result < sorts)
-}
-
-/// Whether the transition's parameters have sorts of the signature, and its body is well-sorted.
-fn is_step_of(alloc: Global, sig: &Sig, step: &Step) -> Result<bool, AllocError>
-    ensures { IfOk result (λ b. IsTrue b ↔ IsStepOf sig.now step.now) }
-{
-    if !step.params.as_slice().iter().all(|s| *s < sig.sorts) {
-        return Ok(false);
-    }
-    let mut scope = step.params.as_slice().to_vec(alloc)?;
-    is_formula(sig, 2, &mut scope, &step.body)
-}
-
-/// Whether this holds of each transition.
-fn are_steps_of(alloc: Global, sig: &Sig, steps: &[Step]) -> Result<bool, AllocError>
-    ensures { IfOk result (λ b. IsTrue b ↔ All (IsStepOf sig.now) steps.now) }
-{
-    'each: for step in steps {
-        if !is_step_of(alloc, sig, step)? {
-            return Ok(false);
-        }
-    }
-    Ok(true)
-}
-
-impl Sig {
-    /// Whether the symbols' sorts are sorts of the signature, and there are fewer than 2^32 - 1
-    /// symbols. It takes no memory.
-    pub fn is_well_sorted(&self) -> bool
-        ensures { IsTrue result ↔ IsSig self.now }
-    {
-        self.symbols.len() < u32::MAX as usize
-            && self
-                .symbols
-                .as_slice()
-                .iter()
-                .all(|s| has_sorts(self.sorts, s))
-    }
-}
-
-impl System {
-    /// Whether the system is well-sorted: what every call that takes a system asks of it.
-    pub fn is_well_sorted(&self, alloc: Global) -> Result<bool, AllocError>
-        ensures { IfOk result (λ b. IsTrue b ↔ IsSystem self.now) }
-    {
-        let properties = self.safeties.len().saturating_add(self.invariants.len());
-        if !self.sig.is_well_sorted()
-            || self.steps.len() > u32::MAX as usize
-            || properties > u32::MAX as usize
-        {
-            return Ok(false);
-        }
-        Ok(
-            are_closed(alloc, &self.sig, self.axioms.as_slice())?
-                && are_closed(alloc, &self.sig, self.inits.as_slice())?
-                && are_steps_of(alloc, &self.sig, self.steps.as_slice())?
-                && are_closed(alloc, &self.sig, self.safeties.as_slice())?
-                && are_closed(alloc, &self.sig, self.invariants.as_slice())?,
-        )
-    }
+    are_formulas(alloc, sig, 1, fs)
 }

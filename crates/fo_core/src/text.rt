@@ -1,5 +1,6 @@
 ghost use Rattle.std.specs.Prelude.{◌≡◌, string_bytes, IfOk};
 
+use crate::seq::Seq;
 use std::alloc::{AllocError, Global};
 use std::marker::Model;
 
@@ -39,5 +40,18 @@ impl Text {
         Ok(Text {
             text: String::from_str(alloc, self.text.as_str())?,
         })
+    }
+}
+
+impl Seq<Text> {
+    /// A copy.
+    pub fn copy(&self, alloc: Global) -> Result<Seq<Text>, AllocError>
+        ensures { IfOk result (λ s. s ≡ self.now) }
+    {
+        let mut copies = Seq::new(alloc);
+        'each: for item in self.as_slice() {
+            copies.push(item.copy(alloc)?)?;
+        }
+        Ok(copies)
     }
 }

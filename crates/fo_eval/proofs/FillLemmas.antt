@@ -5,12 +5,12 @@ use Rattle.std.specs.Prelude.{slice_index, IsTrue}
 use Rattle.std.proofs.lemmas.Bool.{cases_lt}
 use Rattle.std.proofs.lemmas.List.{take_all, get_or_default}
 use Rattle.std.proofs.lemmas.List.Elements.{AllZip-push, All-head, All-tail}
-use Rattle.fo_core.specs.declared.syntax.Sig.{Sig}
-use Rattle.fo_core.specs.declared.syntax.Formula.{Formula}
+use Rattle.fo_core.specs.declared.signature.Sig.{Sig}
+use Rattle.fo_core.specs.declared.formula.Formula.{Formula}
 use Rattle.fo_core.specs.declared.world.World.{World}
 use Rattle.fo_core.specs.Truth.{Truth}
-use Rattle.fo_core.specs.declared.syntax.Step.{Step}
-use Rattle.fo_core.specs.declared.syntax.System.{System}
+use Rattle.fo_core.specs.declared.system.Step.{Step}
+use Rattle.fo_core.specs.declared.system.System.{System}
 use Rattle.fo_core.specs.Runs.{KeepsOthers, LeadsOn, IsStep}
 use Rattle.fo_core.proofs.MoreCopies.{formula-more}
 use Rattle.fo_core.specs.Sorted.{IsFormula, binders}

@@ -4,10 +4,10 @@ use Rattle.std.specs.List.{AllZip}
 use Rattle.std.specs.Prelude.{slice_index, IsTrue}
 use Rattle.std.proofs.lemmas.Bool.Decides.{Decides-not}
 use Rattle.std.proofs.lemmas.List.Elements.{AllZip-push}
-use Rattle.fo_core.specs.declared.syntax.Sig.{Sig}
-use Rattle.fo_core.specs.declared.syntax.Term.{Term}
-use Rattle.fo_core.specs.declared.syntax.Formula.{Formula}
-use Rattle.fo_core.specs.declared.syntax.Formula.TheVariants as F
+use Rattle.fo_core.specs.declared.signature.Sig.{Sig}
+use Rattle.fo_core.specs.declared.term.Term.{Term}
+use Rattle.fo_core.specs.declared.formula.Formula.{Formula}
+use Rattle.fo_core.specs.declared.formula.Formula.TheVariants as F
 use Rattle.fo_core.specs.declared.world.World.{World}
 use Rattle.fo_core.specs.declared.world.Table.{Table}
 use Rattle.fo_core.specs.Tables.{symbol_at, place, arg_sizes, table_of}

@@ -7,9 +7,9 @@ use Rattle.fo_core.proofs.Zips.{AllZip-length, AllZip-at}
 use Rattle.std.proofs.Math.ListN.{drop_of_length-le}
 use Rattle.std.proofs.lemmas.List.{get_or_past, get_or-map, length-map}
 use Rattle.std.proofs.lemmas.Bool.{cases_lt}
-use Rattle.fo_core.specs.declared.syntax.Sig.{Sig}
-use Rattle.fo_core.specs.declared.syntax.Term.{Term}
-use Rattle.fo_core.specs.declared.syntax.Term.TheVariants.{App}
+use Rattle.fo_core.specs.declared.signature.Sig.{Sig}
+use Rattle.fo_core.specs.declared.term.Term.{Term}
+use Rattle.fo_core.specs.declared.term.Term.TheVariants.{App}
 use Rattle.fo_core.specs.declared.world.Table.{Table}
 use Rattle.fo_core.specs.declared.world.World.{World}
 use Rattle.fo_core.specs.Tables.{symbol_at, tuples, place, arg_sizes, table_of}

@@ -1,11 +1,11 @@
 -- What the calls ask for, and which transition or safety they answer.
 use Rattle.std.specs.Prelude.{◌≡◌, [], ◌++◌, slice_index_or, ℕ, ◌+◌, ◌-◌, ◌<◌, ◌≤◌, ◌^◌, true, List, length, map, slice_index}
 use Rattle.std.specs.List.{All, AllZip}
-use Rattle.fo_core.specs.declared.syntax.Sig.{Sig}
-use Rattle.fo_core.specs.declared.syntax.Formula.{Formula}
-use Rattle.fo_core.specs.declared.syntax.Step.{Step}
-use Rattle.fo_core.specs.declared.syntax.System.{System}
-use Rattle.fo_core.specs.declared.syntax.Term.{Term}
+use Rattle.fo_core.specs.declared.signature.Sig.{Sig}
+use Rattle.fo_core.specs.declared.formula.Formula.{Formula}
+use Rattle.fo_core.specs.declared.system.Step.{Step}
+use Rattle.fo_core.specs.declared.system.System.{System}
+use Rattle.fo_core.specs.declared.term.Term.{Term}
 use Rattle.fo_core.specs.declared.world.World.{World}
 use Rattle.fo_core.specs.Tables.{Fits, tuples, entry, symbol_at}
 use Rattle.fo_core.specs.Truth.{value, Truth}

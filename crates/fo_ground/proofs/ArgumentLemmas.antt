@@ -3,13 +3,14 @@ use Rattle.std.proofs.Common.{◌≡◌, ℕ, zero, suc, ◌+◌, ◌*◌, ◌/�
 use Rattle.std.specs.Prelude.{slice_index, slice_index_or}
 use Rattle.fo_ground.specs.Reading.{picked}
 use Rattle.std.proofs.Math.Nat.{mod-lt, div-lt_iff_lt-mul, mul-div_cancel_left}
-use Rattle.fo_core.specs.declared.syntax.Sig.{Sig}
+use Rattle.fo_core.specs.declared.signature.Sig.{Sig}
 use Rattle.fo_core.specs.Weights.{power}
 use Rattle.fo_terms.specs.declared.terms.Universe.{Universe}
 use Rattle.fo_core.specs.TermCounts.{term_counts}
 use Rattle.fo_ground.specs.Numbers.{count_of, first_at}
 use Rattle.fo_ground.proofs.ClassTables.{positive_of}
-use Rattle.fo_terms.specs.Blocks.{raised, tuple_at}
+use Rattle.fo_terms.specs.Blocks.{raised}
+use Rattle.fo_core.specs.Tuples.{tuple_at}
 
 -- a number below a product: the product's parts are not 0, and its quotient and rest are below them
 module _ (n T number : ℕ) (below : number < n * T) where

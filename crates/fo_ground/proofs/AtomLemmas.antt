@@ -1,10 +1,10 @@
 -- The variable of an atom and the literal of a literal mean its instance.
 use Rattle.std.proofs.Common.{◌≡◌, ℕ, Bool, true, false, List, map, refl, sym, subst, ◌∙◌, true≢false}
-use Rattle.fo_core.specs.declared.syntax.Sig.{Sig}
-use Rattle.fo_core.specs.declared.syntax.Term.{Term}
-use Rattle.fo_core.specs.declared.syntax.Formula.{Formula, Rel, Eq}
-use Rattle.fo_core.specs.declared.syntax.Formula.TheVariants as F
-use Rattle.fo_core.specs.declared.syntax.Formula.TheBlock.{shape-the_row-Formula-0, hidden-the_row-Formula-0}
+use Rattle.fo_core.specs.declared.signature.Sig.{Sig}
+use Rattle.fo_core.specs.declared.term.Term.{Term}
+use Rattle.fo_core.specs.declared.formula.Formula.{Formula, Rel, Eq}
+use Rattle.fo_core.specs.declared.formula.Formula.TheVariants as F
+use Rattle.fo_core.specs.declared.formula.Formula.TheBlock.{shape-the_row-Formula-0, hidden-the_row-Formula-0}
 use denote.Hole.Carrier.{hidden}
 use Rattle.fo_core.specs.Tables.{symbol_at}
 use Rattle.fo_core.proofs.Rows.{sorted-Not}

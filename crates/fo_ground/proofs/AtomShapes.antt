@@ -5,7 +5,7 @@ use Rattle.std.proofs.lemmas.List.Concat.{flat_map-cons}
 use Rattle.std.proofs.lemmas.List.Elements.{All-nil, All-head, All-tail, All-append, All-get_or}
 use Rattle.std.proofs.lemmas.List.FromFn.{get_or-range_with_len, length-range_with_len, get_or-map-range_with_len, length-map-range_with_len}
 use Rattle.std.proofs.Math.Nat.{mod-lt, div-lt_iff_lt-mul}
-use Rattle.fo_core.specs.declared.syntax.Sig.{Sig}
+use Rattle.fo_core.specs.declared.signature.Sig.{Sig}
 use Rattle.fo_core.specs.Tables.{no_symbol, symbol_at}
 use Rattle.fo_core.specs.Sorted.{HasSorts, IsSig}
 use Rattle.fo_terms.specs.declared.terms.Universe.{Universe}
@@ -16,8 +16,9 @@ use Rattle.fo_ground.specs.declared.grounded.Atom.TheVariants.{Same}
 use Rattle.fo_ground.specs.Grounds.{IsShaped}
 use Rattle.fo_ground.specs.Numbers.{count_of, first_at, row, row_end, rows, tuple_count, fact_count, fact_at, facts_of, atoms_of}
 use Rattle.fo_ground.proofs.ClassTables.{positive_of}
-use Rattle.fo_terms.specs.Blocks.{raised, tuple_at}
-use Rattle.fo_terms.proofs.TupleLemmas.{tuple-below}
+use Rattle.fo_terms.specs.Blocks.{raised}
+use Rattle.fo_core.proofs.TupleLemmas.{tuple-below}
+use Rattle.fo_core.specs.Tuples.{tuple_at}
 
 module _ {A : Type 0} (P : A → Type 0) where
   pub All-flat : (f : ℕ → List A) (xs : List ℕ) → All (λ x. All P (f x)) xs → All P (flat_map f xs)

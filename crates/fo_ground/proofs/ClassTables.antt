@@ -3,14 +3,14 @@ use Rattle.std.proofs.Common.{◌≡◌, ℕ, zero, suc, Bool, true, false, cond
 use Rattle.std.specs.List.{AllZip, filter}
 use Rattle.std.specs.Prelude.{slice_index}
 use Rattle.std.proofs.lemmas.List.FromFn.{get_or-map-range_with_len}
-use Rattle.fo_core.specs.declared.syntax.Symbol.{Symbol}
+use Rattle.fo_core.specs.declared.signature.Symbol.{Symbol}
 use Rattle.fo_core.specs.declared.world.Table.{Table}
 use Rattle.fo_core.specs.Tables.{tuples, place, is_like, IsTable, AreTables}
 use Rattle.fo_core.proofs.TableLemmas.{place-lt}
 use Rattle.fo_terms.specs.declared.terms.Ground.{Ground}
 use Rattle.fo_ground.specs.Classes.{class_count, class_entry, class_table, class_tables}
-use Rattle.fo_terms.specs.Blocks.{tuple_at}
-use Rattle.fo_terms.proofs.TupleLemmas.{tuple-place}
+use Rattle.fo_core.specs.Tuples.{tuple_at}
+use Rattle.fo_core.proofs.TupleLemmas.{tuple-place}
 
 pub positive_of : (n T k : ℕ) → k < n * T → 0 < T
 positive_of n zero k lt = absurd (omega arith)

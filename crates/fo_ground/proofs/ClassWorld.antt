@@ -5,8 +5,8 @@ use Rattle.std.specs.Prelude.{slice_index, slice_index_or}
 use Rattle.std.proofs.Math.ListN.{set}
 use Rattle.std.proofs.lemmas.List.FromFn.{get_or-map-range_with_len, length-map-range_with_len}
 use Rattle.std.proofs.lemmas.List.Elements.{All-head, All-tail, All-get_or}
-use Rattle.fo_core.specs.declared.syntax.Sig.{Sig}
-use Rattle.fo_core.specs.declared.syntax.Symbol.{Symbol}
+use Rattle.fo_core.specs.declared.signature.Sig.{Sig}
+use Rattle.fo_core.specs.declared.signature.Symbol.{Symbol}
 use Rattle.fo_core.specs.declared.world.World.{World}
 use Rattle.fo_core.specs.Tables.{no_symbol, no_table, symbol_at, tuples, place, is_like, arg_sizes, range_of, rank, table_of, entry, IsTable, AreTables, Fits}
 use Rattle.fo_core.specs.Truth.{reading}
@@ -18,8 +18,8 @@ use Rattle.fo_ground.specs.Classes.{IsNaming, IsClosed, IsNamed, bit, heads_of, 
 use Rattle.fo_ground.proofs.Heads.{head-is, class_of-lt, head-same, class-same, class_of-head, class-equal}
 use Rattle.fo_ground.proofs.Changes.{all_changed}
 use Rattle.fo_ground.proofs.ClassTables.{class_table-at, class_tables-at, class_tables-are}
-use Rattle.fo_terms.specs.Blocks.{tuple_at}
-use Rattle.fo_terms.proofs.TupleLemmas.{tuple-below}
+use Rattle.fo_core.specs.Tuples.{tuple_at}
+use Rattle.fo_core.proofs.TupleLemmas.{tuple-below}
 
 -- ground terms of a signature, closed under its functions, with one of each sort
 pub record IsBasis (ts : List Ground) (at : ℕ → ℕ → List ℕ → ℕ) (sig : Sig) (copies : ℕ) : Type 0 where

@@ -1,7 +1,7 @@
 -- Congruence of functions, said of each ground term, is congruence of functions.
 use Rattle.std.proofs.Common.{◌≡◌, ℕ, Bool, true, false, ◌<◌, List, length, subst}
 use Rattle.std.specs.Prelude.{slice_index, slice_set}
-use Rattle.fo_core.specs.declared.syntax.Sig.{Sig}
+use Rattle.fo_core.specs.declared.signature.Sig.{Sig}
 use Rattle.fo_core.specs.Tables.{symbol_at}
 use Rattle.fo_core.specs.Sorted.{IsSymbol}
 use Rattle.fo_terms.specs.declared.terms.Ground.{Ground}

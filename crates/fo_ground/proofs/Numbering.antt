@@ -7,7 +7,7 @@ use Rattle.std.proofs.lemmas.List.Concat.{get_or-flat_map}
 use Rattle.std.proofs.lemmas.List.Folds.{length-flat_map-take}
 use Rattle.std.proofs.lemmas.Nat.{div-mul-add, mod-mul-add}
 use Rattle.std.proofs.lemmas.List.FromFn.{get_or-range_with_len, length-range_with_len, get_or-map-range_with_len, length-map-range_with_len}
-use Rattle.fo_core.specs.declared.syntax.Sig.{Sig}
+use Rattle.fo_core.specs.declared.signature.Sig.{Sig}
 use Rattle.fo_core.specs.Tables.{symbol_at, tuples, place}
 use Rattle.fo_core.specs.Sorted.{IsSymbol}
 use Rattle.fo_core.proofs.TableLemmas.{place-lt}
@@ -22,8 +22,9 @@ use Rattle.fo_ground.specs.Layout.{locals, same_var, slot}
 use Rattle.fo_ground.specs.Grounds.{IsListed}
 use Rattle.fo_ground.specs.Numbers.{count_of, first_at, row, row_end, rows, fact_count, fact_at, facts_of, atoms_of, fact_start, term_start, symbol_start, row_start, layout_of}
 use Rattle.fo_ground.proofs.FactLemmas.{same_var-ordered, below_size}
-use Rattle.fo_terms.specs.Blocks.{raised, tuple_at}
-use Rattle.fo_terms.proofs.TupleLemmas.{tuple-place}
+use Rattle.fo_terms.specs.Blocks.{raised}
+use Rattle.fo_core.proofs.TupleLemmas.{tuple-place}
+use Rattle.fo_core.specs.Tuples.{tuple_at}
 
 -- the j-th element of the i-th piece of a list of n pieces
 module _ {A : Type 0} (f : ℕ → List A) (n i j : ℕ) (d : A) (lt : i < n) (below : j < length (f i)) where

@@ -3,7 +3,7 @@ use Rattle.std.proofs.Common.{◌≡◌, ℕ, Bool, true, false, cond, ◌+◌, 
 use Rattle.std.specs.Prelude.{slice_index}
 use Rattle.std.proofs.lemmas.Bool.{cases_lt}
 use Rattle.std.proofs.lemmas.List.FromFn.{length-map-range_with_len}
-use Rattle.fo_core.specs.declared.syntax.Sig.{Sig}
+use Rattle.fo_core.specs.declared.signature.Sig.{Sig}
 use Rattle.fo_core.specs.Tables.{symbol_at, tuples, place}
 use Rattle.fo_core.specs.Sorted.{IsSymbol}
 use Rattle.fo_terms.specs.declared.terms.Universe.{Universe}

@@ -3,9 +3,9 @@ use Rattle.std.proofs.Common.{◌≡◌, ◌↔◌, ℕ, Bool, ◌<◌, ◌⊎�
 use Rattle.std.specs.List.{AllZip}
 use Rattle.std.proofs.lemmas.List.{map-append, get_or-map}
 use Rattle.std.proofs.lemmas.List.Elements.{AllZip-push, length_all_zip}
-use Rattle.fo_core.specs.declared.syntax.Sig.{Sig}
-use Rattle.fo_core.specs.declared.syntax.Term.{Term, Var, App', Row_of-Term, end_of-Term, more_of-Term}
-use Rattle.fo_core.specs.declared.syntax.Formula.{Formula, True, False, Rel, Eq, Not', And', Or', All', Ex', Row_of-Formula, end_of-Formula, more_of-Formula}
+use Rattle.fo_core.specs.declared.signature.Sig.{Sig}
+use Rattle.fo_core.specs.declared.term.Term.{Term, Var, App', Row_of-Term, end_of-Term, more_of-Term}
+use Rattle.fo_core.specs.declared.formula.Formula.{Formula, True, False, Rel, Eq, Not', And', Or', All', Ex', Row_of-Formula, end_of-Formula, more_of-Formula}
 use Rattle.fo_core.specs.Tables.{symbol_at}
 use Rattle.fo_core.specs.Truth.{value_in, values_in, TruthIn, EachTrueIn, SomeTrueIn}
 use Rattle.fo_core.specs.Sorted.{IsTerm, AreTerms, IsFormula, AreFormulas}

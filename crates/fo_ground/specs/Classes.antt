@@ -1,15 +1,15 @@
 -- Namings of elements by ground terms, and the quotient world of an equality on ground terms.
 use Rattle.std.specs.Prelude.{◌≡◌, ◌↔◌, ℕ, zero, suc, ◌<◌, Bool, true, false, cond, ◌==◌, List, [], ◌∷◌, ◌++◌, map, length, slice_index}
 use Rattle.std.specs.List.{range_with_len, list_any, position_or_len}
-use Rattle.fo_core.specs.declared.syntax.Sig.{Sig}
-use Rattle.fo_core.specs.declared.syntax.Symbol.{Symbol}
+use Rattle.fo_core.specs.declared.signature.Sig.{Sig}
+use Rattle.fo_core.specs.declared.signature.Symbol.{Symbol}
 use Rattle.fo_core.specs.declared.world.Table.{Table}
 use Rattle.fo_core.specs.declared.world.World.{World}
 use Rattle.fo_core.specs.Tables.{symbol_at, tuples, is_like}
 use Rattle.fo_core.specs.Sorted.{IsSymbol}
 use Rattle.fo_terms.specs.declared.terms.Ground.{Ground}
 use Rattle.fo_terms.specs.Universe.{IsOf, AreOf, sort_at}
-use Rattle.fo_terms.specs.Blocks.{tuple_at}
+use Rattle.fo_core.specs.Tuples.{tuple_at}
 
 -- each ground term has an element as its value under a reading of the symbols, and the atoms say what is true of these
 pub record IsNaming (ts : List Ground) (at : ℕ → ℕ → List ℕ → ℕ) (same : ℕ → ℕ → Bool) (fact : ℕ → ℕ → List ℕ → Bool) (sig : Sig) (copies : ℕ) (sizes : List ℕ) (reads : ℕ → ℕ → List ℕ → ℕ) (m : ℕ → ℕ) : Type 0 where

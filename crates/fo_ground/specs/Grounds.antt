@@ -1,6 +1,6 @@
 -- Clauses of a form: which variable stands for which atom, and what the clauses mean.
 use Rattle.std.specs.Prelude.{◌≡◌, ℕ, ◌≤◌, Bool, true, List, length, slice_index_or, ⊤}
-use Rattle.fo_core.specs.declared.syntax.Sig.{Sig}
+use Rattle.fo_core.specs.declared.signature.Sig.{Sig}
 use Rattle.fo_core.specs.Tables.{symbol_at}
 use Rattle.fo_core.specs.Sorted.{IsSymbol}
 use Rattle.prop_core.specs.Formula.{MeetsAll, AreWithin}

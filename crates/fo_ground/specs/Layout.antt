@@ -1,9 +1,9 @@
 -- Where ground terms and the variables of atoms lie.
 use Rattle.std.specs.Prelude.{◌≡◌, ◌↔◌, ℕ, ◌+◌, ◌-◌, ◌<◌, ◌≤◌, ◌^◌, ◌*◌, min, max, Bool, true, false, List, map, length, slice_index}
 use Rattle.std.specs.List.{AllZip}
-use Rattle.fo_core.specs.declared.syntax.Sig.{Sig}
-use Rattle.fo_core.specs.declared.syntax.Term.{Term}
-use Rattle.fo_core.specs.declared.syntax.Formula.{Formula, Not', more_of-Formula}
+use Rattle.fo_core.specs.declared.signature.Sig.{Sig}
+use Rattle.fo_core.specs.declared.term.Term.{Term}
+use Rattle.fo_core.specs.declared.formula.Formula.{Formula, Not', more_of-Formula}
 use Rattle.fo_core.specs.Tables.{symbol_at, tuples, place}
 use Rattle.fo_core.specs.Sorted.{IsSymbol, IsTerm, IsFormula}
 use Rattle.fo_norm.specs.Forms.{IsAtom}

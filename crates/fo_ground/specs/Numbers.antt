@@ -1,7 +1,7 @@
 -- The atoms over a universe in the order of their variables, and the layout that this gives.
 use Rattle.std.specs.Prelude.{ℕ, ◌+◌, ◌-◌, ◌*◌, ◌/◌, ◌%◌, cond, List, [], ◌++◌, map, take, length, slice_index}
 use Rattle.std.specs.List.{range_with_len, flat_map}
-use Rattle.fo_core.specs.declared.syntax.Sig.{Sig}
+use Rattle.fo_core.specs.declared.signature.Sig.{Sig}
 use Rattle.fo_core.specs.Tables.{symbol_at, tuples}
 use Rattle.fo_terms.specs.declared.terms.Universe.{Universe}
 use Rattle.fo_terms.specs.Arranged.{earlier_applications}
@@ -10,7 +10,8 @@ use Rattle.fo_terms.specs.Universe.{sort_at}
 use Rattle.fo_ground.specs.declared.grounded.Atom.{Atom}
 use Rattle.fo_ground.specs.declared.grounded.Atom.TheVariants.{Same, Fact}
 use Rattle.fo_ground.specs.declared.layout.Layout.{Layout}
-use Rattle.fo_terms.specs.Blocks.{raised, tuple_at}
+use Rattle.fo_terms.specs.Blocks.{raised}
+use Rattle.fo_core.specs.Tuples.{tuple_at}
 
 module _ (sig : Sig) (copies : ℕ) (u : Universe) where
   -- how many ground terms a sort has

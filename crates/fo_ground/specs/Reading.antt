@@ -1,8 +1,8 @@
 -- What is read off values of the variables: classes of ground terms, and tables of these.
 use Rattle.std.specs.Prelude.{◌≡◌, ℕ, Bool, cond, List, [], ◌∷◌, map, length, slice_index, slice_index_or}
 use Rattle.std.specs.List.{range_with_len}
-use Rattle.fo_core.specs.declared.syntax.Sig.{Sig}
-use Rattle.fo_core.specs.declared.syntax.Symbol.{Symbol}
+use Rattle.fo_core.specs.declared.signature.Sig.{Sig}
+use Rattle.fo_core.specs.declared.signature.Symbol.{Symbol}
 use Rattle.fo_core.specs.declared.world.Table.{Table}
 use Rattle.fo_core.specs.declared.world.World.{World}
 use Rattle.fo_core.specs.Tables.{symbol_at}
@@ -11,7 +11,7 @@ use Rattle.fo_ground.specs.declared.classes.Classes.{Classes}
 use Rattle.fo_ground.specs.declared.layout.Layout.{Layout}
 use Rattle.fo_ground.specs.Classes.{bit, class_entry, heads_of, class_of, class_count, class_table, class_tables, class_world}
 use Rattle.fo_ground.specs.Layout.{slot, same_by, fact_by}
-use Rattle.fo_terms.specs.Blocks.{tuple_at}
+use Rattle.fo_core.specs.Tuples.{tuple_at}
 
 -- by values of the variables
 module _ (u : Universe) (lay : Layout) (v : ℕ → Bool) where

@@ -4,7 +4,8 @@ ghost use Rattle.fo_core.specs.Sorted.{IsSig};
 ghost use Rattle.fo_core.specs.Weights.{power};
 ghost use Rattle.fo_ground.specs.Layout.{IsLaidOut};
 ghost use Rattle.fo_ground.specs.Numbers.{count_of, layout_of, row, facts_of, atoms_of};
-ghost use Rattle.fo_terms.specs.Blocks.{raised, tuple_at};
+ghost use Rattle.fo_terms.specs.Blocks.{raised};
+ghost use Rattle.fo_core.specs.Tuples.{tuple_at};
 
 use crate::grounded::Atom;
 use crate::layout::{Layout, copies_of, tuples};

@@ -1,6 +1,6 @@
 ghost use Rattle.std.specs.Prelude.{[], ◌≡◌, ◌<◌, ◌≤◌, ℕ, Bool, length, map, cond, slice_index, slice_index_or, IfOk};
 ghost use Rattle.std.specs.List.{All};
-ghost use Rattle.fo_core.specs.declared.syntax.Symbol.{Symbol};
+ghost use Rattle.fo_core.specs.declared.signature.Symbol.{Symbol};
 ghost use Rattle.fo_core.specs.Sorted.{IsSig};
 ghost use Rattle.fo_core.specs.Tables.{symbol_at};
 ghost use Rattle.fo_core.specs.Weights.{power};
@@ -8,7 +8,7 @@ ghost use Rattle.fo_terms.specs.Universe.{AreOf};
 ghost use Rattle.prop_core.specs.Formula.{value_of};
 ghost use Rattle.fo_ground.specs.Layout.{IsLaidOut};
 ghost use Rattle.fo_ground.specs.Reading.{AreRead, entry_by, table_by, tables_by, picked};
-ghost use Rattle.fo_terms.specs.Blocks.{tuple_at};
+ghost use Rattle.fo_core.specs.Tuples.{tuple_at};
 
 use crate::classes::Classes;
 use crate::layout::{Layout, tuples};

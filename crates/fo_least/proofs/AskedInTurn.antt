@@ -4,11 +4,11 @@ use Rattle.std.proofs.Common.{◌≡◌, ℕ, true, ◌⊎◌, inl, inr, ◌+◌
 use Rattle.std.proofs.lemmas.Bool.{cases_order}
 use Rattle.std.proofs.lemmas.List.{append_assoc, append-nil, take_all}
 use Rattle.fo_core.specs.declared.query.Query.{Query}
-use Rattle.fo_core.specs.declared.syntax.Sig.{Sig}
+use Rattle.fo_core.specs.declared.signature.Sig.{Sig}
 use Rattle.fo_core.specs.Finds.{HasNoWorld}
-use Rattle.fo_least.specs.Asked.{is_relation_at, AreNextSizes, AreNextValues, size_trials, value_trials, queries_for, IsAsked, at_first, for_size, for_value}
+use Rattle.fo_core.specs.Asked.{is_relation_at, AreNextSizes, AreNextValues, size_trials, value_trials, queries_for, IsAsked, at_first, for_size, for_value}
 use Rattle.fo_least.specs.Begins.{Begins, OneBegins}
-use Rattle.fo_least.specs.Trials.{trial}
+use Rattle.fo_core.specs.Trials.{trial}
 use Rattle.fo_least.proofs.Beginnings.{Leads, leads-behind, leads-front, leads-range}
 use Rattle.fo_least.proofs.Determined.{sizes-begin, values-begin, leads-size, leads-value}
 

@@ -3,7 +3,7 @@ use Rattle.std.proofs.Common.{◌≡◌, ℕ, ◌+◌, ◌-◌, ◌<◌, List, �
 use Rattle.std.specs.List.{flat_map, range_with_len}
 use Rattle.std.proofs.lemmas.List.{append_assoc, map-append}
 use Rattle.std.proofs.lemmas.List.Concat.{flat_map-append}
-use Rattle.fo_least.proofs.Pieces.{range-append}
+use Rattle.fo_core.proofs.Pieces.{range-append}
 
 -- the numbers below m, with n among them
 range-split : (n m : ℕ) → n < m → range_with_len 0 n ++ n ∷ range_with_len (n + 1) (m - (n + 1)) ≡ range_with_len 0 m

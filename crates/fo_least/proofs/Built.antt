@@ -7,16 +7,18 @@ use Rattle.std.proofs.lemmas.List.{length-replicate, take-append-drop, length-ma
 use Rattle.std.proofs.lemmas.List.FromFn.{length-range_with_len}
 use Rattle.std.proofs.Math.Seq.{get_or-append_seam}
 use Rattle.std.proofs.lemmas.List.Elements.{All-nil, All-cons}
-use Rattle.fo_core.specs.declared.syntax.Sig.{Sig}
-use Rattle.fo_core.specs.declared.syntax.Symbol.{Symbol}
+use Rattle.fo_core.specs.declared.signature.Sig.{Sig}
+use Rattle.fo_core.specs.declared.signature.Symbol.{Symbol}
 use Rattle.fo_core.specs.declared.world.Table.{Table}
 use Rattle.fo_core.specs.declared.world.World.{World}
 use Rattle.fo_core.specs.Tables.{symbol_at, tuples, arg_sizes, range_of, is_like, AreTables, Fits, no_symbol}
 use Rattle.fo_core.proofs.Zips.{AllZip-each, AllZip-length}
-use Rattle.fo_least.specs.declared.cell.Cell.{Cell}
-use Rattle.fo_least.specs.Asked.{no_cell}
-use Rattle.fo_least.specs.Cells.{all_tuples, cells_in, numbers_like, cells}
-use Rattle.fo_least.specs.Least.{table_values, world_values}
+use Rattle.fo_core.specs.declared.cell.Cell.{Cell}
+use Rattle.fo_core.specs.Asked.{no_cell}
+use Rattle.fo_core.specs.Cells.{cells_in, numbers_like, cells}
+use Rattle.fo_core.specs.Least.{table_values, world_values}
+use Rattle.fo_core.specs.Tuples.{all_tuples}
+use Rattle.fo_core.proofs.TupleLemmas.{tuples_number}
 
 -- ---- lists
 
@@ -111,22 +113,6 @@ copies_values sizes ss a (suc n) vs h =
     ∙ ap (λ r. take m vs ++ r) rest ∙ take-append-drop m vs
 
 -- ---- the bounds of the values of all cells
-
-copied_length : {X : Type 0} (ts : List X) (f : ℕ → X → X) (xs : List ℕ) → length (flat_map (λ x. map (f x) ts) xs) ≡ length xs * length ts
-copied_length ts f [] = omega arith
-copied_length ts f (x ∷ xs) =
-    ap length (flat_map-cons (λ x. map (f x) ts) x xs)
-    ∙ length-append (map (f x) ts) (flat_map (λ x. map (f x) ts) xs)
-    ∙ ap (λ n. n + length (flat_map (λ x. map (f x) ts) xs)) (length-map ts (f x))
-    ∙ ap (λ n. length ts + n) (copied_length ts f xs)
-    ∙ omega arith
-
-pub tuples_number : (ns : List ℕ) → length (all_tuples ns) ≡ tuples ns
-tuples_number [] = refl
-tuples_number (n ∷ ns) =
-    copied_length (all_tuples ns) (λ x xs. x ∷ xs) (range_with_len 0 n)
-    ∙ ap (λ m. m * length (all_tuples ns)) (length-range_with_len 0 n)
-    ∙ ap (λ m. n * m) (tuples_number ns)
 
 map_const : {X : Type 0} (r : ℕ) (xs : List X) → map (λ x. r) xs ≡ replicate (length xs) r
 map_const r [] = refl

@@ -4,26 +4,21 @@ use Rattle.std.specs.Bool.{beq}
 use Rattle.std.specs.Prelude.{slice_index_or}
 use Rattle.std.specs.List.{All, AllZip, flat_map, range_with_len}
 use Rattle.std.proofs.lemmas.List.Elements.{All-nil, All-cons, All-append, All-filter, filter_passes}
-use Rattle.fo_core.specs.declared.syntax.Sig.{Sig}
+use Rattle.fo_core.specs.declared.signature.Sig.{Sig}
 use Rattle.fo_core.specs.Sorted.{IsSymbol}
 use Rattle.fo_core.specs.Tables.{symbol_at, arg_sizes, is_like}
-use Rattle.fo_least.specs.declared.cell.Cell.{Cell}
-use Rattle.fo_least.specs.Asked.{no_cell}
-use Rattle.fo_least.specs.Cells.{all_tuples, cells_in, numbers_like, cells}
-use Rattle.fo_least.proofs.ListFacts.{all_mapped, all_flat, all_range}
+use Rattle.fo_core.specs.declared.cell.Cell.{Cell}
+use Rattle.fo_core.specs.Asked.{no_cell}
+use Rattle.fo_core.specs.Cells.{cells_in, numbers_like, cells}
+use Rattle.fo_core.proofs.ListFacts.{all_mapped, all_flat, all_range}
+use Rattle.fo_core.specs.Tuples.{all_tuples}
+use Rattle.fo_core.proofs.TupleLemmas.{tuples-below}
 
 -- a symbol of the signature, a copy in which it may be read, and elements below the sizes of its sorts
 pub record IsCell (sig : Sig) (sizes : List ℕ) (copies : ℕ) (c : Cell) : Type 0 where
   pub within : c.symbol < length sig.symbols
   pub copy : c.copy < cond (symbol_at sig c.symbol).mutable copies 1
   pub args : AllZip (λ x n. x < n) c.args (arg_sizes sizes (symbol_at sig c.symbol))
-
-pub tuples-below : (ns : List ℕ) → All (λ xs. AllZip (λ x n. x < n) xs ns) (all_tuples ns)
-tuples-below [] = All-cons (λ xs. AllZip (λ x n. x < n) xs []) [] [] tt (All-nil (λ xs. AllZip (λ x n. x < n) xs []))
-tuples-below (n ∷ ns) =
-    all_flat (λ xs. AllZip (λ x n. x < n) xs (n ∷ ns)) (λ x. map (λ xs. x ∷ xs) (all_tuples ns)) (range_with_len 0 n)
-    (all_range (λ x. All (λ xs. AllZip (λ x n. x < n) xs (n ∷ ns)) (map (λ xs. x ∷ xs) (all_tuples ns))) n
-    (λ x lt. all_mapped (λ xs. AllZip (λ x n. x < n) xs (n ∷ ns)) (λ xs. x ∷ xs) (all_tuples ns) (λ k d in_. (lt, tuples-below ns k d in_))))
 
 like-from : (m b : Bool) → beq m b ≡ true → m ≡ b
 like-from true true e = refl

@@ -5,40 +5,25 @@ use Rattle.std.specs.Prelude.{slice_index, slice_index_or}
 use Rattle.std.specs.List.{All, AllZip, Contains, filter, flat_map, range_with_len}
 use Rattle.std.proofs.lemmas.List.{map-append, length-map, get_or-map}
 use Rattle.std.proofs.lemmas.List.Elements.{Contains-append_left, Contains-append_right}
-use Rattle.fo_core.specs.declared.syntax.Sig.{Sig}
-use Rattle.fo_core.specs.declared.syntax.Symbol.{Symbol}
+use Rattle.fo_core.specs.declared.signature.Sig.{Sig}
+use Rattle.fo_core.specs.declared.signature.Symbol.{Symbol}
 use Rattle.fo_core.specs.declared.world.Table.{Table}
 use Rattle.fo_core.specs.declared.world.World.{World}
 use Rattle.fo_core.specs.Tables.{no_symbol, no_table, symbol_at, tuples, place, arg_sizes, range_of, is_like, table_of, entry, IsTable, AreTables, Fits}
 use Rattle.fo_core.proofs.TableLemmas.{table_is, place-lt}
-use Rattle.fo_least.specs.declared.cell.Cell.{Cell}
-use Rattle.fo_least.specs.Asked.{no_cell}
-use Rattle.fo_least.specs.Cells.{all_tuples, cells_in, numbers_like, cells}
-use Rattle.fo_least.specs.Least.{table_values, world_values}
+use Rattle.fo_core.specs.declared.cell.Cell.{Cell}
+use Rattle.fo_core.specs.Asked.{no_cell}
+use Rattle.fo_core.specs.Cells.{cells_in, numbers_like, cells}
+use Rattle.fo_core.specs.Least.{table_values, world_values}
 use Rattle.fo_least.proofs.CellLemmas.{IsCell, like-numbers}
-use Rattle.fo_least.proofs.ListFacts.{all_range}
-use Rattle.fo_least.proofs.Pieces.{map-map, map-flat_map, flat_map-map, flat_map-agree, Contains-flat_map, Contains-map, Contains-filter, range-Contains, range-shift, range-blocks, places-all, rank_in, ranks-all}
+use Rattle.fo_core.proofs.ListFacts.{all_range}
+use Rattle.fo_core.proofs.Pieces.{map-map, map-flat_map, flat_map-map, flat_map-agree, Contains-flat_map, Contains-map, Contains-filter, range-Contains, range-shift, range-blocks, places-all, rank_in, ranks-all}
+use Rattle.fo_core.specs.Tuples.{all_tuples}
+use Rattle.fo_core.proofs.TupleLemmas.{tuple-places, tuple-found}
 
 -- the entry at a place
 abbrev pub entry_at : Sig → World → Cell → ℕ
 entry_at sig w c = entry sig w c.copy c.symbol c.args
-
--- the tuples stand at the places 0, 1, 2 ..
-pub tuple-places : (ns : List ℕ) → map (place ns) (all_tuples ns) ≡ range_with_len 0 (tuples ns)
-tuple-places [] = refl
-tuple-places (n ∷ ns) =
-    map-flat_map (place (n ∷ ns)) (λ x. map (λ xs. x ∷ xs) (all_tuples ns)) (range_with_len 0 n)
-    ∙ flat_map-agree (λ x. map (place (n ∷ ns)) (map (λ xs. x ∷ xs) (all_tuples ns))) (λ x. range_with_len (x * tuples ns) (tuples ns)) (range_with_len 0 n) (λ k d lt. block (tuple-places ns) (get_or (range_with_len 0 n) k d))
-    ∙ range-blocks (tuples ns) 0 n
-    ∙ (let e : 0 * tuples ns ≡ 0 = omega arith in ap (λ a. range_with_len a (n * tuples ns)) e)
-  where
-    block : map (place ns) (all_tuples ns) ≡ range_with_len 0 (tuples ns) → (x : ℕ) → map (place (n ∷ ns)) (map (λ xs. x ∷ xs) (all_tuples ns)) ≡ range_with_len (x * tuples ns) (tuples ns)
-    block so_far x =
-        map-map (place (n ∷ ns)) (λ xs. x ∷ xs) (all_tuples ns)
-        ∙ sym (map-map (λ y. x * tuples ns + y) (place ns) (all_tuples ns))
-        ∙ ap (map (λ y. x * tuples ns + y)) so_far
-        ∙ range-shift (x * tuples ns) 0 (tuples ns)
-        ∙ (let e : x * tuples ns + 0 ≡ x * tuples ns = omega arith in ap (λ a. range_with_len a (tuples ns)) e)
 
 pub table-listed : (ns vs : List ℕ) → length vs ≡ tuples ns → map (λ xs. slice_index vs (place ns xs)) (all_tuples ns) ≡ vs
 table-listed ns vs e = sym (map-map (λ k. get_or vs k 0) (place ns) (all_tuples ns)) ∙ ap (map (λ k. get_or vs k 0)) (tuple-places ns ∙ ap (range_with_len 0) (sym e)) ∙ places-all vs 0
@@ -119,14 +104,6 @@ module _ (sig : Sig) (w : World) (fits : Fits sig w) where
 
       table : IsTable w.sizes (symbol_at sig c.symbol) (table_of sig w c.copy c.symbol)
       table = table_is sig w c.copy c.symbol fits is.within within
-
--- every tuple of elements below the sizes is one of all
-pub tuple-found : (ns xs : List ℕ) → AllZip (λ x n. x < n) xs ns → Contains (all_tuples ns) xs
-tuple-found [] [] h = (0, omega arith, refl)
-tuple-found [] (x ∷ xs) h = absurd h
-tuple-found (n ∷ ns) [] h = absurd h
-tuple-found (n ∷ ns) (x ∷ xs) h =
-    Contains-flat_map (λ x. map (λ xs. x ∷ xs) (all_tuples ns)) (range_with_len 0 n) x (x ∷ xs) (range-Contains n x h.0) (Contains-map (λ xs. x ∷ xs) (all_tuples ns) xs (tuple-found ns xs h.1))
 
 -- each symbol's each value in a copy has its place
 pub cell-found : (sig : Sig) (sizes : List ℕ) (copies : ℕ) (c : Cell) → IsCell sig sizes copies c → Contains (cells sig sizes copies) c

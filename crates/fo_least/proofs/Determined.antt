@@ -5,20 +5,20 @@ use Rattle.std.specs.List.{flat_map, range_with_len}
 use Rattle.std.proofs.lemmas.Bool.{cases_lt}
 use Rattle.std.proofs.lemmas.List.{append-nil, take_all, append_assoc, take-take, get_or-take}
 use Rattle.fo_core.specs.declared.query.Query.{Query}
-use Rattle.fo_core.specs.declared.syntax.Sig.{Sig}
+use Rattle.fo_core.specs.declared.signature.Sig.{Sig}
 use Rattle.fo_core.specs.declared.world.World.{World}
 use Rattle.fo_core.specs.Queries.{IsQuery}
-use Rattle.fo_core.specs.Finds.{HasNoWorld}
+use Rattle.fo_core.specs.Finds.{HasWorld, HasNoWorld}
 use Rattle.fo_core.specs.Sorted.{IsSig}
-use Rattle.fo_least.specs.Asked.{HasWorld, is_relation_at, IsNextSize, AreNextSizes, IsNextValue, AreNextValues, tried, size_trials, value_trials, queries_for, least_queries, IsAsked, at_first, for_size, for_value}
-use Rattle.fo_least.specs.Cells.{cells}
-use Rattle.fo_least.specs.Least.{world_values, IsLeast}
-use Rattle.fo_least.specs.Trials.{trial}
+use Rattle.fo_core.specs.Asked.{is_relation_at, IsNextSize, AreNextSizes, IsNextValue, AreNextValues, tried, size_trials, value_trials, queries_for, least_queries, IsAsked, at_first, for_size, for_value}
+use Rattle.fo_core.specs.Cells.{cells}
+use Rattle.fo_core.specs.Least.{world_values, IsLeast}
+use Rattle.fo_core.specs.Trials.{trial}
 use Rattle.fo_least.proofs.Beginnings.{Leads, leads-behind, leads-front, leads-range, leads-flat}
 use Rattle.fo_least.proofs.CellValues.{values-length}
 use Rattle.fo_least.proofs.LeastSettles.{least-sizes, least-values, sizes-only, values-only}
-use Rattle.fo_least.proofs.ListFacts.{all_range}
-use Rattle.fo_least.proofs.Pieces.{flat_map-agree}
+use Rattle.fo_core.proofs.ListFacts.{all_range}
+use Rattle.fo_core.proofs.Pieces.{flat_map-agree}
 
 module _ (sig : Sig) (q : Query) where
   -- the trials of the sizes of one sort, and of the values of one entry

@@ -10,8 +10,8 @@ use Rattle.std.proofs.lemmas.List.Sums.{sum_by_more, sum_by-take-le}
 use Rattle.fo_core.specs.declared.world.World.{World}
 use Rattle.fo_core.specs.Runs.{AreElements}
 use Rattle.fo_core.proofs.Zips.{AllZip-at, AllZip-each, AllZip-length}
-use Rattle.fo_least.specs.Trials.{element_sorts}
-use Rattle.fo_least.proofs.ListFacts.{all_flat, all_range, zip_flat}
+use Rattle.fo_core.specs.Trials.{element_sorts}
+use Rattle.fo_core.proofs.ListFacts.{all_flat, all_range, zip_flat}
 
 module _ (sizes : List ℕ) where
   -- lists of these lengths, one for each sort, joined end to end

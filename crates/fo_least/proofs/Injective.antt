@@ -5,11 +5,11 @@ use Rattle.std.proofs.lemmas.Bool.{cases_lt, cases_eq}
 use Rattle.std.proofs.lemmas.Bool.Decides.{nat_tests}
 use Rattle.std.proofs.lemmas.List.{get_or-take, length-take, length-take-le}
 use Rattle.fo_core.specs.declared.query.Query.{Query}
-use Rattle.fo_core.specs.declared.syntax.Sig.{Sig}
+use Rattle.fo_core.specs.declared.signature.Sig.{Sig}
 use Rattle.fo_core.specs.declared.world.World.{World}
 use Rattle.fo_core.specs.Queries.{IsQuery}
 use Rattle.fo_core.specs.Sorted.{IsSig}
-use Rattle.fo_least.specs.Asked.{AreNextSizes}
+use Rattle.fo_core.specs.Asked.{AreNextSizes}
 use Rattle.fo_least.proofs.Isomorphic.{IsApart, sort_known}
 use Rattle.fo_least.proofs.Naming.{IsNaming, MeetsTrial}
 use Rattle.fo_least.proofs.NextLemmas.{joined, joined-naming, can_try_size}

@@ -5,9 +5,9 @@ use Rattle.std.specs.List.{AllZip, Contains}
 use Rattle.std.proofs.lemmas.Bool.{cases_lt}
 use Rattle.std.proofs.lemmas.List.{get_or_past, get_or_default}
 use Rattle.fo_core.specs.declared.query.Query.{Query}
-use Rattle.fo_core.specs.declared.syntax.Sig.{Sig}
-use Rattle.fo_core.specs.declared.syntax.Term.{Term, Var, App', Row_of-Term, end_of-Term, more_of-Term}
-use Rattle.fo_core.specs.declared.syntax.Formula.{Formula, True, False, Rel, Eq, Not', And', Or', All', Ex', Row_of-Formula, end_of-Formula, more_of-Formula}
+use Rattle.fo_core.specs.declared.signature.Sig.{Sig}
+use Rattle.fo_core.specs.declared.term.Term.{Term, Var, App', Row_of-Term, end_of-Term, more_of-Term}
+use Rattle.fo_core.specs.declared.formula.Formula.{Formula, True, False, Rel, Eq, Not', And', Or', All', Ex', Row_of-Formula, end_of-Formula, more_of-Formula}
 use Rattle.fo_core.specs.declared.world.World.{World}
 use Rattle.fo_core.specs.Queries.{IsQuery, MeetsQuery}
 use Rattle.fo_core.specs.Runs.{AreElements}
@@ -15,10 +15,10 @@ use Rattle.fo_core.specs.Sorted.{IsSymbol, IsTerm, AreTerms, IsFormula, AreFormu
 use Rattle.fo_core.specs.Tables.{symbol_at, range_of, entry, Fits}
 use Rattle.fo_core.specs.Truth.{value_in, values_in, TruthIn, EachTrueIn, SomeTrueIn, reading}
 use Rattle.fo_core.proofs.PlaceLemmas.{elements-below}
-use Rattle.fo_least.specs.declared.cell.Cell.{Cell}
-use Rattle.fo_least.specs.Asked.{no_cell}
-use Rattle.fo_least.specs.Cells.{cells}
-use Rattle.fo_least.specs.Least.{world_values}
+use Rattle.fo_core.specs.declared.cell.Cell.{Cell}
+use Rattle.fo_core.specs.Asked.{no_cell}
+use Rattle.fo_core.specs.Cells.{cells}
+use Rattle.fo_core.specs.Least.{world_values}
 use Rattle.fo_least.proofs.CellLemmas.{IsCell}
 use Rattle.fo_least.proofs.CellValues.{entry_at, value-at, values-length, cell-found, entry-below}
 use Rattle.fo_least.proofs.Naming.{IsNaming, named, named_value, IsEntry, MeetsTrial}

@@ -4,16 +4,16 @@ use Rattle.std.specs.Prelude.{slice_index}
 use Rattle.std.proofs.lemmas.Bool.{cases_lt}
 use Rattle.std.proofs.lemmas.List.{take_more}
 use Rattle.fo_core.specs.declared.query.Query.{Query}
-use Rattle.fo_core.specs.declared.syntax.Sig.{Sig}
+use Rattle.fo_core.specs.declared.signature.Sig.{Sig}
 use Rattle.fo_core.specs.declared.world.World.{World}
 use Rattle.fo_core.specs.Queries.{IsQuery, MeetsQuery}
 use Rattle.fo_core.specs.SortGraph.{ComesFirst}
 use Rattle.fo_core.specs.Sorted.{IsSig}
 use Rattle.fo_core.specs.Tables.{Fits}
-use Rattle.fo_least.specs.Asked.{HasWorld, is_relation_at, AreNextSizes, AreNextValues}
-use Rattle.fo_least.specs.Cells.{cells}
-use Rattle.fo_least.specs.Least.{world_values, numbers_of, IsLeast}
-use Rattle.fo_least.specs.Trials.{trial}
+use Rattle.fo_core.specs.Asked.{is_relation_at, AreNextSizes, AreNextValues}
+use Rattle.fo_core.specs.Cells.{cells}
+use Rattle.fo_core.specs.Least.{world_values, numbers_of, IsLeast}
+use Rattle.fo_core.specs.Trials.{trial}
 use Rattle.fo_least.proofs.CellValues.{values-length}
 use Rattle.fo_least.proofs.Injective.{next-apart}
 use Rattle.fo_least.proofs.Isomorphic.{meets-described}
@@ -22,6 +22,7 @@ use Rattle.fo_least.proofs.Lexicographic.{first-by, first-append}
 use Rattle.fo_least.proofs.Naming.{MeetsTrial}
 use Rattle.fo_least.proofs.Settled.{lesser-none, settled-world}
 use Rattle.fo_least.proofs.TrialMeaning.{trial_means}
+use Rattle.fo_core.specs.Finds.{HasWorld}
 
 module _ (sig : Sig) (q : Query) (is : IsSig sig) (sorted : IsQuery sig q) (v : World) (meets : MeetsQuery sig q v) where
   -- a world meets the trials of its own numbers

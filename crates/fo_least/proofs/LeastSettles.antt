@@ -4,17 +4,17 @@ use Rattle.std.specs.Prelude.{slice_index, slice_index_or}
 use Rattle.std.proofs.lemmas.Bool.{cases_lt}
 use Rattle.std.proofs.lemmas.List.{take_more_same, length-take-le, get_or-take, get_or_append_left, get_or_push, length_push, length-append}
 use Rattle.fo_core.specs.declared.query.Query.{Query}
-use Rattle.fo_core.specs.declared.syntax.Sig.{Sig}
+use Rattle.fo_core.specs.declared.signature.Sig.{Sig}
 use Rattle.fo_core.specs.declared.world.World.{World}
 use Rattle.fo_core.specs.Queries.{IsQuery, MeetsQuery}
-use Rattle.fo_core.specs.Finds.{HasNoWorld}
+use Rattle.fo_core.specs.Finds.{HasNoWorld, HasWorld}
 use Rattle.fo_core.specs.SortGraph.{ComesFirst}
 use Rattle.fo_core.specs.Sorted.{IsSig}
 use Rattle.fo_core.specs.Tables.{symbol_at, range_of}
-use Rattle.fo_least.specs.Asked.{HasWorld, no_cell, is_relation_at, IsNextSize, AreNextSizes, IsNextTruth, IsNextValue, AreNextValues}
-use Rattle.fo_least.specs.Cells.{cells}
-use Rattle.fo_least.specs.Least.{world_values, numbers_of, IsLeast}
-use Rattle.fo_least.specs.Trials.{trial}
+use Rattle.fo_core.specs.Asked.{no_cell, is_relation_at, IsNextSize, AreNextSizes, IsNextTruth, IsNextValue, AreNextValues}
+use Rattle.fo_core.specs.Cells.{cells}
+use Rattle.fo_core.specs.Least.{world_values, numbers_of, IsLeast}
+use Rattle.fo_core.specs.Trials.{trial}
 use Rattle.fo_least.proofs.CellLemmas.{cells-at}
 use Rattle.fo_least.proofs.CellValues.{values-length, value-at, entry-below}
 use Rattle.fo_least.proofs.Injective.{next-apart}

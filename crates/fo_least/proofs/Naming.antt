@@ -1,14 +1,14 @@
 -- What a trial says of a world: its elements have names, and table entries have named values.
 use Rattle.std.specs.Prelude.{◌≡◌, ℕ, ◌<◌, ◌≤◌, cond, List, [], ◌∷◌, length, slice_index, slice_index_or}
 use Rattle.fo_core.specs.declared.query.Query.{Query}
-use Rattle.fo_core.specs.declared.syntax.Sig.{Sig}
-use Rattle.fo_core.specs.declared.syntax.Symbol.{Symbol}
+use Rattle.fo_core.specs.declared.signature.Sig.{Sig}
+use Rattle.fo_core.specs.declared.signature.Symbol.{Symbol}
 use Rattle.fo_core.specs.declared.world.World.{World}
 use Rattle.fo_core.specs.Queries.{MeetsQuery}
 use Rattle.fo_core.specs.Tables.{symbol_at, entry, range_of}
-use Rattle.fo_least.specs.declared.cell.Cell.{Cell}
-use Rattle.fo_least.specs.Asked.{no_cell}
-use Rattle.fo_least.specs.Cells.{cells}
+use Rattle.fo_core.specs.declared.cell.Cell.{Cell}
+use Rattle.fo_core.specs.Asked.{no_cell}
+use Rattle.fo_core.specs.Cells.{cells}
 
 -- each element of the first sorts is named by a number below the size that is tried
 pub record IsNaming (w : World) (sizes : List ℕ) (name : ℕ → ℕ → ℕ) : Type 0 where

@@ -4,12 +4,12 @@ use Rattle.std.specs.List.{All, filter, flat_map}
 use Rattle.std.proofs.lemmas.List.{append_assoc}
 use Rattle.std.proofs.lemmas.List.Elements.{All-head, All-tail}
 use Rattle.fo_core.specs.declared.query.Query.{Query}
-use Rattle.fo_core.specs.declared.syntax.Sig.{Sig}
-use Rattle.fo_core.specs.declared.syntax.Symbol.{Symbol}
+use Rattle.fo_core.specs.declared.signature.Sig.{Sig}
+use Rattle.fo_core.specs.declared.signature.Symbol.{Symbol}
 use Rattle.fo_core.specs.declared.world.Table.{Table}
 use Rattle.fo_core.specs.declared.world.World.{World}
 use Rattle.fo_core.specs.Tables.{is_like, AreTables, Fits}
-use Rattle.fo_least.specs.Least.{table_values, world_values, numbers_of, IsLeast}
+use Rattle.fo_core.specs.Least.{table_values, world_values, numbers_of, IsLeast}
 use Rattle.fo_least.proofs.Lexicographic.{first-both}
 
 -- lists that are equal with what stands behind them are equal where they are of one length

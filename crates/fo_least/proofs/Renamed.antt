@@ -7,24 +7,26 @@ use Rattle.std.proofs.lemmas.List.{map-append, length-map, get_or-map}
 use Rattle.std.proofs.lemmas.List.Elements.{All-head, All-tail, All-from_get_or}
 use Rattle.std.proofs.lemmas.List.FromFn.{length-range_with_len}
 use Rattle.fo_core.specs.declared.query.Query.{Query}
-use Rattle.fo_core.specs.declared.syntax.Sig.{Sig}
-use Rattle.fo_core.specs.declared.syntax.Symbol.{Symbol}
+use Rattle.fo_core.specs.declared.signature.Sig.{Sig}
+use Rattle.fo_core.specs.declared.signature.Symbol.{Symbol}
 use Rattle.fo_core.specs.declared.world.Table.{Table}
 use Rattle.fo_core.specs.declared.world.World.{World}
 use Rattle.fo_core.specs.Queries.{IsQuery, MeetsQuery}
 use Rattle.fo_core.specs.Sorted.{IsSig}
 use Rattle.fo_core.specs.Tables.{no_symbol, symbol_at, tuples, place, arg_sizes, range_of, is_like, entry, IsTable, AreTables, Fits}
-use Rattle.fo_least.specs.declared.cell.Cell.{Cell}
-use Rattle.fo_least.specs.Asked.{no_cell}
-use Rattle.fo_least.specs.Cells.{all_tuples, cells_in, numbers_like, cells}
-use Rattle.fo_least.specs.Least.{table_values, world_values}
-use Rattle.fo_least.proofs.CellLemmas.{IsCell, like-numbers, tuples-below, cells-at}
-use Rattle.fo_least.proofs.CellValues.{tuple-places, entry-below}
+use Rattle.fo_core.specs.declared.cell.Cell.{Cell}
+use Rattle.fo_core.specs.Asked.{no_cell}
+use Rattle.fo_core.specs.Cells.{cells_in, numbers_like, cells}
+use Rattle.fo_core.specs.Least.{table_values, world_values}
+use Rattle.fo_core.proofs.TupleLemmas.{tuples-below, tuple-places}
+use Rattle.fo_least.proofs.CellLemmas.{IsCell, like-numbers, cells-at}
+use Rattle.fo_least.proofs.CellValues.{entry-below}
 use Rattle.fo_least.proofs.Isomorphic.{IsApart, meets-described}
-use Rattle.fo_least.proofs.ListFacts.{all_mapped, all_range}
+use Rattle.fo_core.proofs.ListFacts.{all_mapped, all_range}
 use Rattle.fo_least.proofs.Naming.{named, named_value, IsEntry, HasValues, CanTry, MeetsTrial}
 use Rattle.fo_least.proofs.NextLemmas.{named-cell, symbol-sorts}
-use Rattle.fo_least.proofs.Pieces.{map-flat_map, flat_map-map, kept-all}
+use Rattle.fo_core.proofs.Pieces.{map-flat_map, flat_map-map, kept-all}
+use Rattle.fo_core.specs.Tuples.{all_tuples}
 
 -- tables for the symbols of these numbers
 are-tables : (sig : Sig) (sizes ks : List ℕ) (table : ℕ → Table) → All (λ k. IsTable sizes (symbol_at sig k) (table k)) ks → AreTables sizes (map (symbol_at sig) ks) (map table ks)

@@ -4,15 +4,15 @@ use Rattle.std.specs.Prelude.{slice_index, slice_index_or}
 use Rattle.std.proofs.lemmas.Bool.{cases_lt}
 use Rattle.std.proofs.lemmas.List.{take_more, take_all, length-take, length-take-le}
 use Rattle.fo_core.specs.declared.query.Query.{Query}
-use Rattle.fo_core.specs.declared.syntax.Sig.{Sig}
+use Rattle.fo_core.specs.declared.signature.Sig.{Sig}
 use Rattle.fo_core.specs.declared.world.World.{World}
 use Rattle.fo_core.specs.Queries.{IsQuery, MeetsQuery}
-use Rattle.fo_core.specs.Finds.{HasNoWorld}
+use Rattle.fo_core.specs.Finds.{HasNoWorld, HasWorld}
 use Rattle.fo_core.specs.Sorted.{IsSig}
 use Rattle.fo_core.specs.Tables.{symbol_at, range_of}
-use Rattle.fo_least.specs.Asked.{HasWorld, no_cell, is_relation_at, AreNextSizes, IsNextValue, AreNextValues}
-use Rattle.fo_least.specs.Cells.{cells}
-use Rattle.fo_least.specs.Trials.{trial}
+use Rattle.fo_core.specs.Asked.{no_cell, is_relation_at, AreNextSizes, IsNextValue, AreNextValues}
+use Rattle.fo_core.specs.Cells.{cells}
+use Rattle.fo_core.specs.Trials.{trial}
 use Rattle.fo_least.proofs.Naming.{CanTry, MeetsTrial}
 use Rattle.fo_least.proofs.NextLemmas.{can_try_size, next_value, can_try_value}
 use Rattle.fo_least.proofs.TrialMeaning.{trial_means}

@@ -2,13 +2,13 @@
 use Rattle.std.proofs.Common.{◌≡◌, ℕ, zero, suc, ◌⊎◌, inl, inr, ◌<◌, ◌≤◌, List, [], ◌∷◌, length, refl, sym, ap, subst, ◌∙◌, arith}
 use Rattle.std.proofs.lemmas.Bool.{cases_lt}
 use Rattle.fo_core.specs.declared.query.Query.{Query}
-use Rattle.fo_core.specs.declared.syntax.Sig.{Sig}
+use Rattle.fo_core.specs.declared.signature.Sig.{Sig}
 use Rattle.fo_core.specs.declared.world.World.{World}
+use Rattle.fo_core.specs.Finds.{HasWorld}
 use Rattle.fo_core.specs.Queries.{MeetsQuery}
 use Rattle.fo_core.specs.SortGraph.{ComesFirst}
-use Rattle.fo_least.specs.Asked.{HasWorld}
-use Rattle.fo_least.specs.Cells.{cells}
-use Rattle.fo_least.specs.Least.{world_values, numbers_of, IsLeast}
+use Rattle.fo_core.specs.Cells.{cells}
+use Rattle.fo_core.specs.Least.{world_values, numbers_of, IsLeast}
 use Rattle.fo_least.proofs.CellValues.{values-length}
 use Rattle.fo_least.proofs.Lexicographic.{first-append}
 

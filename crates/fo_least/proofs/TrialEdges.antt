@@ -2,20 +2,20 @@
 use Rattle.std.proofs.Common.{◌≡◌, ℕ, Bool, true, false, cond, ◌⊎◌, inl, inr, List, [], ◌∷◌, ◌++◌, length, map, sum}
 use Rattle.std.specs.Prelude.{slice_index, ◌==◌}
 use Rattle.std.specs.List.{Any, range_with_len}
-use Rattle.fo_core.specs.declared.syntax.Sig.{Sig}
-use Rattle.fo_core.specs.declared.syntax.Symbol.{Symbol}
-use Rattle.fo_core.specs.declared.syntax.Term.{Term, Var}
-use Rattle.fo_core.specs.declared.syntax.Term.TheVariants as T
-use Rattle.fo_core.specs.declared.syntax.Formula.{Formula, Rel, Eq}
-use Rattle.fo_core.specs.declared.syntax.Formula.TheVariants as F
+use Rattle.fo_core.specs.declared.signature.Sig.{Sig}
+use Rattle.fo_core.specs.declared.signature.Symbol.{Symbol}
+use Rattle.fo_core.specs.declared.term.Term.{Term, Var}
+use Rattle.fo_core.specs.declared.term.Term.TheVariants as T
+use Rattle.fo_core.specs.declared.formula.Formula.{Formula, Rel, Eq}
+use Rattle.fo_core.specs.declared.formula.Formula.TheVariants as F
 use Rattle.fo_core.specs.SortGraph.{HasExistential, FormulaEdge}
 use Rattle.fo_core.specs.Tables.{symbol_at}
 use Rattle.fo_core.proofs.EdgeRows.{existential-Or, edge-Not, edge-All, edge-And, edge-Or}
-use Rattle.fo_least.specs.declared.cell.Cell.{Cell}
-use Rattle.fo_least.specs.Cells.{cells}
-use Rattle.fo_least.specs.Trials.{element_sorts, element, cover, covers, elements, has_value, have_values, claim_of}
-use Rattle.fo_least.proofs.Existentials.{some_over-edge}
-use Rattle.fo_least.proofs.ListFacts.{cast, any_cases, any_none, any_append, any_map}
+use Rattle.fo_core.specs.declared.cell.Cell.{Cell}
+use Rattle.fo_core.specs.Cells.{cells}
+use Rattle.fo_core.specs.Trials.{element_sorts, element, cover, covers, elements, has_value, have_values, claim_of}
+use Rattle.fo_core.proofs.Binders.{some_over-edge}
+use Rattle.fo_core.proofs.ListFacts.{cast, any_cases, any_none, any_append, any_map}
 
 -- where no element has a property, none of some does
 none_of : {X : Type 0} (P : X → Type 0) → ((x : X) → ¬ P x) → (xs : List X) → ¬ Any P xs

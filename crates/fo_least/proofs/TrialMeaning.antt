@@ -5,10 +5,10 @@ use Rattle.std.specs.Prelude.{slice_index, slice_index_or}
 use Rattle.std.specs.List.{All, Any, range_with_len}
 use Rattle.std.proofs.lemmas.List.Elements.{All-head, All-append, All-push}
 use Rattle.fo_core.specs.declared.query.Query.{Query}
-use Rattle.fo_core.specs.declared.syntax.Sig.{Sig}
-use Rattle.fo_core.specs.declared.syntax.Symbol.{Symbol}
-use Rattle.fo_core.specs.declared.syntax.Formula.{Formula}
-use Rattle.fo_core.specs.declared.syntax.Formula.TheVariants as F
+use Rattle.fo_core.specs.declared.signature.Sig.{Sig}
+use Rattle.fo_core.specs.declared.signature.Symbol.{Symbol}
+use Rattle.fo_core.specs.declared.formula.Formula.{Formula}
+use Rattle.fo_core.specs.declared.formula.Formula.TheVariants as F
 use Rattle.fo_core.specs.declared.world.World.{World}
 use Rattle.fo_core.specs.Queries.{IsQuery, MeetsQuery}
 use Rattle.fo_core.specs.Runs.{AreElements}
@@ -17,14 +17,14 @@ use Rattle.fo_core.specs.SortGraph.{FormulaEdge, FormulasEdge, ClaimsEdge, Rises
 use Rattle.fo_core.specs.Tables.{no_symbol, symbol_at, Fits}
 use Rattle.fo_core.specs.Truth.{Truth}
 use Rattle.fo_core.proofs.Rows.{truth-And, And-sorted}
-use Rattle.fo_least.specs.declared.cell.Cell.{Cell}
-use Rattle.fo_least.specs.Asked.{no_cell}
-use Rattle.fo_least.specs.Cells.{cells}
-use Rattle.fo_least.specs.Trials.{element_sorts, cover, covers, has_value, have_values, claim_of, trial}
+use Rattle.fo_core.specs.declared.cell.Cell.{Cell}
+use Rattle.fo_core.specs.Asked.{no_cell}
+use Rattle.fo_core.specs.Cells.{cells}
+use Rattle.fo_core.specs.Trials.{element_sorts, cover, covers, has_value, have_values, claim_of, trial}
 use Rattle.fo_least.proofs.CellLemmas.{IsCell, cells-at}
 use Rattle.fo_least.proofs.ElementLemmas.{sorts-known, name_list, names-at, names-elements, value-within, values-count}
-use Rattle.fo_least.proofs.Existentials.{some_over-from, some_over-to, some_over-sorted}
-use Rattle.fo_least.proofs.ListFacts.{any_append, any_one, all_left, all_right, all_map, all_mapped, all_range, range_all}
+use Rattle.fo_core.proofs.Binders.{some_over-from, some_over-to, some_over-sorted}
+use Rattle.fo_core.proofs.ListFacts.{any_append, any_one, all_left, all_right, all_map, all_mapped, all_range, range_all}
 use Rattle.fo_least.proofs.Naming.{IsNaming, IsEntry, HasValues, CanTry, MeetsTrial}
 use Rattle.fo_least.proofs.TrialEdges.{claim-none}
 use Rattle.fo_least.proofs.TrialSorted.{covers-sorted, has_value-sorted}

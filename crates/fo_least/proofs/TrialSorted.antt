@@ -4,20 +4,20 @@ use Rattle.std.specs.Prelude.{slice_index, ◌==◌}
 use Rattle.std.specs.List.{All, AllZip, range_with_len}
 use Rattle.std.proofs.lemmas.List.{get_or_append_left, get_or_push}
 use Rattle.std.proofs.lemmas.List.Elements.{All-head, All-tail}
-use Rattle.fo_core.specs.declared.syntax.Sig.{Sig}
-use Rattle.fo_core.specs.declared.syntax.Symbol.{Symbol}
-use Rattle.fo_core.specs.declared.syntax.Term.{Term, Var}
-use Rattle.fo_core.specs.declared.syntax.Term.TheVariants as T
-use Rattle.fo_core.specs.declared.syntax.Formula.{Rel, Eq}
-use Rattle.fo_core.specs.declared.syntax.Formula.TheVariants as F
+use Rattle.fo_core.specs.declared.signature.Sig.{Sig}
+use Rattle.fo_core.specs.declared.signature.Symbol.{Symbol}
+use Rattle.fo_core.specs.declared.term.Term.{Term, Var}
+use Rattle.fo_core.specs.declared.term.Term.TheVariants as T
+use Rattle.fo_core.specs.declared.formula.Formula.{Rel, Eq}
+use Rattle.fo_core.specs.declared.formula.Formula.TheVariants as F
 use Rattle.fo_core.specs.Sorted.{IsTerm, IsFormula}
 use Rattle.fo_core.specs.Tables.{symbol_at, range_of}
 use Rattle.fo_core.proofs.Rows.{sorted-Not, sorted-All, Or-sorted, App-sorted}
-use Rattle.fo_least.specs.declared.cell.Cell.{Cell}
-use Rattle.fo_least.specs.Trials.{element_sorts, element, cover, covers, elements, has_value}
+use Rattle.fo_core.specs.declared.cell.Cell.{Cell}
+use Rattle.fo_core.specs.Trials.{element_sorts, element, cover, covers, elements, has_value}
 use Rattle.fo_least.proofs.CellLemmas.{IsCell, cell-symbol}
 use Rattle.fo_least.proofs.ElementLemmas.{place-below, sorts-length, sorts-at}
-use Rattle.fo_least.proofs.ListFacts.{back, all_mapped, all_range}
+use Rattle.fo_core.proofs.ListFacts.{back, all_mapped, all_range}
 
 module _ (sig : Sig) (n : ℕ) (sizes : List ℕ) where
   -- the variable of an element is a term of its sort, also under one more variable

@@ -4,24 +4,24 @@ use Rattle.std.specs.Prelude.{slice_index, slice_index_or, ◌==◌}
 use Rattle.std.specs.List.{All, AllZip, range_with_len}
 use Rattle.std.proofs.lemmas.List.{get_or_append_left, get_or_push}
 use Rattle.std.proofs.lemmas.List.Elements.{All-head, All-tail}
-use Rattle.fo_core.specs.declared.syntax.Sig.{Sig}
-use Rattle.fo_core.specs.declared.syntax.Symbol.{Symbol}
-use Rattle.fo_core.specs.declared.syntax.Term.{Term, Var}
-use Rattle.fo_core.specs.declared.syntax.Term.TheVariants as T
-use Rattle.fo_core.specs.declared.syntax.Formula.{Formula, Rel, Eq}
-use Rattle.fo_core.specs.declared.syntax.Formula.TheVariants as F
+use Rattle.fo_core.specs.declared.signature.Sig.{Sig}
+use Rattle.fo_core.specs.declared.signature.Symbol.{Symbol}
+use Rattle.fo_core.specs.declared.term.Term.{Term, Var}
+use Rattle.fo_core.specs.declared.term.Term.TheVariants as T
+use Rattle.fo_core.specs.declared.formula.Formula.{Formula, Rel, Eq}
+use Rattle.fo_core.specs.declared.formula.Formula.TheVariants as F
 use Rattle.fo_core.specs.declared.world.World.{World}
 use Rattle.fo_core.specs.Tables.{symbol_at, entry, range_of, Fits}
 use Rattle.fo_core.specs.Truth.{value, Truth}
 use Rattle.fo_core.specs.Sorted.{IsSymbol}
 use Rattle.fo_core.proofs.Rows.{truth-Not, truth-All, truth-Or, value-App}
 use Rattle.fo_core.proofs.ValueLemmas.{entry-lt}
-use Rattle.fo_least.specs.declared.cell.Cell.{Cell}
-use Rattle.fo_least.specs.Asked.{no_cell}
-use Rattle.fo_least.specs.Trials.{element, cover, elements, has_value, have_values}
+use Rattle.fo_core.specs.declared.cell.Cell.{Cell}
+use Rattle.fo_core.specs.Asked.{no_cell}
+use Rattle.fo_core.specs.Trials.{element, cover, elements, has_value, have_values}
 use Rattle.fo_least.proofs.CellLemmas.{IsCell, cell-symbol}
 use Rattle.fo_least.proofs.ElementLemmas.{place-below}
-use Rattle.fo_least.proofs.ListFacts.{cast, back, any_map, any_mapped, any_range, range_any}
+use Rattle.fo_core.proofs.ListFacts.{cast, back, any_map, any_mapped, any_range, range_any}
 use Rattle.fo_least.proofs.Naming.{IsNaming, named, IsEntry}
 
 -- these values of the variables are the names

@@ -2,14 +2,15 @@
 
 ghost use Rattle.std.specs.Prelude.{◌≡◌, ◌↔◌, ◌++◌, List, [], ◌∷◌, length};
 ghost use Rattle.fo_core.specs.declared.query.Query.{Query};
-ghost use Rattle.fo_core.specs.declared.syntax.Sig.{Sig};
+ghost use Rattle.fo_core.specs.declared.signature.Sig.{Sig};
 ghost use Rattle.fo_core.specs.declared.world.World.{World};
+ghost use Rattle.fo_core.specs.Finds.{HasWorld};
 ghost use Rattle.fo_core.specs.Queries.{IsQuery};
 ghost use Rattle.fo_core.specs.Sorted.{IsSig};
 ghost use Rattle.fo_core.specs.Tables.{Fits};
 ghost use Rattle.fo_least.specs.Begins.{OneBegins};
-ghost use Rattle.fo_least.specs.Asked.{HasWorld, AreNextSizes, AreNextValues, IsAsked, least_queries};
-ghost use Rattle.fo_least.specs.Least.{world_values, IsLeast};
+ghost use Rattle.fo_core.specs.Asked.{AreNextSizes, AreNextValues, IsAsked, least_queries};
+ghost use Rattle.fo_core.specs.Least.{world_values, IsLeast};
 
 /// A query has at most one least world.
 pub fn one_least_world()

@@ -5,16 +5,17 @@ use Rattle.std.proofs.Math.Seq.{drop-cons}
 use Rattle.std.proofs.lemmas.List.{drop_all, take_all}
 use Rattle.std.proofs.lemmas.List.Elements.{All-weaker}
 use Rattle.fo_core.specs.declared.query.Query.{Query}
-use Rattle.fo_core.specs.declared.syntax.Sig.{Sig}
-use Rattle.fo_core.specs.declared.syntax.Formula.{Formula, Eq}
-use Rattle.fo_core.specs.declared.syntax.Formula.TheVariants as F
-use Rattle.fo_core.specs.declared.syntax.Term.{Term, Var}
-use Rattle.fo_least.specs.declared.cell.Cell.{Cell}
-use Rattle.fo_least.specs.Cells.{cells}
-use Rattle.fo_least.specs.Trials.{some_over, element_sorts, element, elements, covers, has_value, have_values, trial}
+use Rattle.fo_core.specs.declared.signature.Sig.{Sig}
+use Rattle.fo_core.specs.declared.formula.Formula.{Formula, Eq}
+use Rattle.fo_core.specs.declared.formula.Formula.TheVariants as F
+use Rattle.fo_core.specs.declared.term.Term.{Term, Var}
+use Rattle.fo_core.specs.declared.cell.Cell.{Cell}
+use Rattle.fo_core.specs.Cells.{cells}
+use Rattle.fo_core.specs.Trials.{element_sorts, element, elements, covers, has_value, have_values, trial}
 use Rattle.fo_least.proofs.CellLemmas.{IsCell, cells-all}
 use Rattle.fo_min.proofs.ListLemmas.{map_more}
 use Rattle.fo_min.specs.Search.{HasSymbol}
+use Rattle.fo_core.specs.Over.{some_over}
 
 elements-none : (sizes sorts : List ℕ) → elements sizes sorts [] ≡ []
 elements-none sizes [] = refl

@@ -3,14 +3,14 @@ use Rattle.std.proofs.Common.{◌≡◌, ℕ, inl, inr, ◌≤◌, List, [], ◌
 use Rattle.std.specs.List.{All}
 use Rattle.std.proofs.lemmas.List.Elements.{All-head, All-tail}
 use Rattle.fo_core.specs.declared.query.Query.{Query}
-use Rattle.fo_core.specs.declared.syntax.Sig.{Sig}
+use Rattle.fo_core.specs.declared.signature.Sig.{Sig}
 use Rattle.fo_core.specs.declared.world.World.{World}
-use Rattle.fo_core.specs.Finds.{HasNoWorld}
+use Rattle.fo_core.specs.Finds.{IsLight, HasNoWorld}
 use Rattle.fo_core.specs.Queries.{IsQuery}
 use Rattle.fo_core.specs.QueryWeight.{query_weight}
 use Rattle.fo_core.specs.Sorted.{IsSig}
-use Rattle.fo_least.specs.Asked.{IsAsked, at_first, for_size, for_value, least_queries}
-use Rattle.fo_least.specs.Least.{IsLeast}
+use Rattle.fo_core.specs.Asked.{IsAsked, at_first, for_size, for_value, least_queries}
+use Rattle.fo_core.specs.Least.{IsLeast}
 use Rattle.fo_least.proofs.AskedInTurn.{InTurn, in-turn}
 use Rattle.fo_least.proofs.Beginnings.{Leads}
 use Rattle.fo_least.proofs.Determined.{asked_leads}
@@ -18,7 +18,7 @@ use Rattle.fo_least.proofs.OneLeast.{one_least}
 use Rattle.fo_min.specs.declared.found.Excess.{Excess}
 use Rattle.fo_min.specs.declared.found.Least.{Least}
 use Rattle.fo_min.specs.declared.found.Least.TheVariants.{Model, Nothing, Over}
-use Rattle.fo_min.specs.Found.{IsLight, IsExcess, IsFoundLeast}
+use Rattle.fo_min.specs.Found.{IsExcess, IsFoundLeast}
 
 all-middle : {X : Type 0} (P : X → Type 0) (before : List X) (x : X) (after : List X) → All P (before ++ x ∷ after) → P x
 all-middle P [] x after h = All-head P x after h

@@ -5,20 +5,20 @@ use Rattle.std.specs.List.{All, flat_map, range_with_len}
 use Rattle.std.proofs.lemmas.List.{take-append-le, take_all}
 use Rattle.std.proofs.lemmas.List.Elements.{All-nil, All-cons, All-push, All-append, All-from_get_or}
 use Rattle.fo_core.specs.declared.query.Query.{Query}
-use Rattle.fo_core.specs.declared.syntax.Sig.{Sig}
-use Rattle.fo_core.specs.declared.syntax.Symbol.{Symbol}
+use Rattle.fo_core.specs.declared.signature.Sig.{Sig}
+use Rattle.fo_core.specs.declared.signature.Symbol.{Symbol}
 use Rattle.fo_core.specs.declared.world.World.{World}
-use Rattle.fo_core.specs.Finds.{HasNoWorld}
+use Rattle.fo_core.specs.Finds.{HasNoWorld, HasWorld, IsLight}
 use Rattle.fo_core.specs.Queries.{IsQuery, MeetsQuery}
 use Rattle.fo_core.specs.QueryWeight.{query_weight}
 use Rattle.fo_core.specs.Sorted.{IsSig, HasSorts}
 use Rattle.fo_core.specs.Tables.{symbol_at, Fits}
-use Rattle.fo_least.specs.Asked.{HasWorld, is_relation_at, IsNextSize, AreNextSizes, IsNextValue, AreNextValues, tried, size_trials, value_trials, queries_for, IsAsked, at_first, for_size, for_value}
-use Rattle.fo_least.specs.Cells.{cells}
-use Rattle.fo_least.specs.Least.{world_values}
-use Rattle.fo_least.specs.Trials.{trial}
+use Rattle.fo_core.specs.Asked.{is_relation_at, IsNextSize, AreNextSizes, IsNextValue, AreNextValues, tried, size_trials, value_trials, queries_for, IsAsked, at_first, for_size, for_value}
+use Rattle.fo_core.specs.Cells.{cells}
+use Rattle.fo_core.specs.Least.{world_values}
+use Rattle.fo_core.specs.Trials.{trial}
 use Rattle.fo_least.proofs.LeastLemmas.{least_world}
-use Rattle.fo_least.proofs.ListFacts.{all_flat, all_range}
+use Rattle.fo_core.proofs.ListFacts.{all_flat, all_range}
 use Rattle.fo_least.proofs.Naming.{CanTry, MeetsTrial}
 use Rattle.fo_least.proofs.NextLemmas.{push-cases, next_size, can_try_size, next_value, can_try_value, symbol-sorts}
 use Rattle.fo_least.proofs.Settled.{settled-world}
@@ -30,7 +30,7 @@ use Rattle.fo_min.specs.declared.search.Answer.TheVariants as Answers
 use Rattle.fo_min.specs.declared.search.Numbers.{Numbers}
 use Rattle.fo_min.specs.declared.search.Numbers.TheVariants as All_of
 use Rattle.fo_min.specs.Cut.{AreInRange}
-use Rattle.fo_min.specs.Found.{IsLight, IsExcess, IsFoundLeast}
+use Rattle.fo_min.specs.Found.{IsExcess, IsFoundLeast}
 use Rattle.fo_min.specs.Search.{IsSettled, IsQueryAnswer, AreSizesFound, AreValuesFound, range_at}
 use Rattle.fo_min.proofs.ListLemmas.{map_more}
 

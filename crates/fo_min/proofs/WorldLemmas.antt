@@ -5,12 +5,12 @@ use Rattle.std.proofs.Math.Seq.{drop-cons}
 use Rattle.std.proofs.lemmas.List.{length-replicate}
 use Rattle.std.proofs.lemmas.List.Sums.{sum_by-cons}
 use Rattle.std.proofs.lemmas.List.Concat.{flat_map-cons}
-use Rattle.fo_core.specs.declared.syntax.Sig.{Sig}
-use Rattle.fo_core.specs.declared.syntax.Symbol.{Symbol}
+use Rattle.fo_core.specs.declared.signature.Sig.{Sig}
+use Rattle.fo_core.specs.declared.signature.Symbol.{Symbol}
 use Rattle.fo_core.specs.declared.world.Table.{Table}
 use Rattle.fo_core.specs.declared.world.World.{World}
 use Rattle.fo_core.specs.Tables.{tuples, arg_sizes, range_of, is_like}
-use Rattle.fo_least.specs.Cells.{cells}
+use Rattle.fo_core.specs.Cells.{cells}
 use Rattle.fo_least.proofs.Built.{ranges_in, tables_for, copies_for, world_for, IsWorldOf, built-is}
 use Rattle.fo_min.specs.Cut.{value_count, counts_like, cut, cut_copies, AreInRange}
 

@@ -1,12 +1,12 @@
 -- A list of values, cut into tables.
 use Rattle.std.specs.Prelude.{ℕ, zero, suc, ◌<◌, Bool, List, [], ◌∷◌, length, map, sum, take, drop, slice_index, slice_index_or}
 use Rattle.std.specs.List.{filter}
-use Rattle.fo_core.specs.declared.syntax.Sig.{Sig}
-use Rattle.fo_core.specs.declared.syntax.Symbol.{Symbol}
+use Rattle.fo_core.specs.declared.signature.Sig.{Sig}
+use Rattle.fo_core.specs.declared.signature.Symbol.{Symbol}
 use Rattle.fo_core.specs.declared.world.Table.{Table}
 use Rattle.fo_core.specs.Tables.{tuples, arg_sizes, range_of, is_like, symbol_at}
-use Rattle.fo_least.specs.Asked.{no_cell}
-use Rattle.fo_least.specs.Cells.{cells}
+use Rattle.fo_core.specs.Asked.{no_cell}
+use Rattle.fo_core.specs.Cells.{cells}
 
 -- how many values the table of a symbol has
 abbrev pub value_count : List ℕ → Symbol → ℕ

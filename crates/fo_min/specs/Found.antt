@@ -2,18 +2,14 @@
 use Rattle.std.specs.Prelude.{◌≡◌, ℕ, ◌<◌, ◌≤◌, List}
 use Rattle.std.specs.List.{All}
 use Rattle.fo_core.specs.declared.query.Query.{Query}
-use Rattle.fo_core.specs.declared.syntax.Sig.{Sig}
-use Rattle.fo_core.specs.Finds.{HasNoWorld}
+use Rattle.fo_core.specs.declared.signature.Sig.{Sig}
+use Rattle.fo_core.specs.Finds.{HasNoWorld, IsLight}
 use Rattle.fo_core.specs.QueryWeight.{query_weight}
-use Rattle.fo_least.specs.Asked.{IsAsked, least_queries}
-use Rattle.fo_least.specs.Least.{IsLeast}
+use Rattle.fo_core.specs.Asked.{IsAsked, least_queries}
+use Rattle.fo_core.specs.Least.{IsLeast}
 use Rattle.fo_min.specs.declared.found.Excess.{Excess}
 use Rattle.fo_min.specs.declared.found.Least.{Least}
 use Rattle.fo_min.specs.declared.found.Least.TheVariants.{Model, Nothing, Over}
-
--- the query weighs at most the limit
-abbrev pub IsLight : Sig → ℕ → Query → Type 0
-IsLight sig limit q = query_weight sig q ≤ limit
 
 -- the first query of the search that is above the limit, with its weight: those before it are light
 pub record IsExcess (sig : Sig) (q : Query) (limit : ℕ) (x : Excess) : Type 0 where

@@ -2,15 +2,15 @@
 use Rattle.std.specs.Prelude.{◌≡◌, ℕ, ◌<◌, List, [], ◌∷◌, ◌++◌, length, take, slice_index, slice_index_or}
 use Rattle.std.specs.List.{All}
 use Rattle.fo_core.specs.declared.query.Query.{Query}
-use Rattle.fo_core.specs.declared.syntax.Sig.{Sig}
-use Rattle.fo_core.specs.Finds.{HasNoWorld}
+use Rattle.fo_core.specs.declared.signature.Sig.{Sig}
+use Rattle.fo_core.specs.Finds.{HasNoWorld, HasWorld, IsLight}
 use Rattle.fo_core.specs.Queries.{MeetsQuery}
 use Rattle.fo_core.specs.QueryWeight.{query_weight}
 use Rattle.fo_core.specs.Tables.{range_of, symbol_at}
-use Rattle.fo_least.specs.declared.cell.Cell.{Cell}
-use Rattle.fo_least.specs.Asked.{no_cell, HasWorld, AreNextSizes, AreNextValues, is_relation_at, tried, size_trials, value_trials}
-use Rattle.fo_least.specs.Cells.{cells}
-use Rattle.fo_least.specs.Trials.{trial}
+use Rattle.fo_core.specs.declared.cell.Cell.{Cell}
+use Rattle.fo_core.specs.Asked.{no_cell, AreNextSizes, AreNextValues, is_relation_at, tried, size_trials, value_trials}
+use Rattle.fo_core.specs.Cells.{cells}
+use Rattle.fo_core.specs.Trials.{trial}
 use Rattle.fo_min.specs.declared.search.Answer.{Answer}
 use Rattle.fo_min.specs.declared.search.Answer.TheVariants as Answers
 use Rattle.fo_min.specs.declared.search.NextSize.{NextSize}
@@ -19,7 +19,7 @@ use Rattle.fo_min.specs.declared.search.NextValue.{NextValue}
 use Rattle.fo_min.specs.declared.search.NextValue.TheVariants as Values
 use Rattle.fo_min.specs.declared.search.Numbers.{Numbers}
 use Rattle.fo_min.specs.declared.search.Numbers.TheVariants as All_of
-use Rattle.fo_min.specs.Found.{IsLight, IsExcess}
+use Rattle.fo_min.specs.Found.{IsExcess}
 
 -- the place is one in the table of a symbol of the signature
 abbrev pub HasSymbol : Sig → Cell → Type 0

@@ -1,13 +1,13 @@
 ghost use Rattle.std.specs.Prelude.{◌≡◌, ◌==◌, ◌<◌, ◌≤◌, ◌^◌, ◌++◌, ◌∷◌, [], cond, length, replicate, sum, take, IfOk, OnOk};
 ghost use Rattle.std.specs.List.{All};
-ghost use Rattle.fo_core.specs.declared.syntax.Sig.{Sig};
-ghost use Rattle.fo_core.specs.declared.syntax.Formula.TheVariants as F;
-ghost use Rattle.fo_least.specs.Trials.{some_over as some_over_of, element_sorts as element_sorts_of, element as element_of, elements as elements_of, cover as cover_of, covers as covers_of, has_value as has_value_of, have_values as have_values_of, trial};
-ghost use Rattle.fo_least.specs.Cells.{cells as cells_of};
+ghost use Rattle.fo_core.specs.declared.signature.Sig.{Sig};
+ghost use Rattle.fo_core.specs.declared.formula.Formula.TheVariants as F;
+ghost use Rattle.fo_core.specs.Trials.{element_sorts as element_sorts_of, element as element_of, elements as elements_of, cover as cover_of, covers as covers_of, has_value as has_value_of, have_values as have_values_of, trial};
+ghost use Rattle.fo_core.specs.Cells.{cells as cells_of};
 ghost use Rattle.fo_min.specs.Search.{HasSymbol};
+ghost use Rattle.fo_core.specs.Over.{some_over as some_over_of};
 
-use fo_core::{Boxed, Formula, Query, Seq, Sig, Term};
-use fo_least::Cell;
+use fo_core::{Boxed, Cell, Formula, Query, Seq, Sig, Term, some_over};
 use std::alloc::{AllocError, Global};
 
 /// How many elements the sorts before this one have. Where the number passes 32 bits, memory is
@@ -160,17 +160,6 @@ fn add_values(
         parts.push(has_value(alloc, sig, sizes, &cells[i], *v)?)?;
     }
     Ok(())
-}
-
-/// The formula under existentials of these sorts, the first of them outermost.
-fn some_over(alloc: Global, sorts: &[u32], body: Formula) -> Result<Formula, AllocError>
-    ensures { IfOk result (λ f. f ≡ some_over_of sorts.now body) }
-{
-    let mut f = body;
-    'each: for i in (0..sorts.len()).rev() {
-        f = Formula::Ex(sorts[i], Boxed::new(alloc, f)?);
-    }
-    Ok(f)
 }
 
 /// The query with these claims about named elements behind its own.

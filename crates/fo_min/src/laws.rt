@@ -2,7 +2,7 @@
 
 ghost use Rattle.std.specs.Prelude.{◌≡◌, ℕ};
 ghost use Rattle.fo_core.specs.declared.query.Query.{Query};
-ghost use Rattle.fo_core.specs.declared.syntax.Sig.{Sig};
+ghost use Rattle.fo_core.specs.declared.signature.Sig.{Sig};
 ghost use Rattle.fo_core.specs.Queries.{IsQuery};
 ghost use Rattle.fo_core.specs.Sorted.{IsSig};
 ghost use Rattle.fo_min.specs.declared.found.Excess.{Excess};

@@ -2,18 +2,18 @@ ghost use Rattle.std.specs.Prelude.{true, false, ◌≡◌, ◌<◌, ◌≤◌, 
 ghost use Rattle.fo_core.specs.Queries.{IsQuery, MeetsQuery};
 ghost use Rattle.fo_core.specs.SortGraph.{ClaimsEdge, Rises};
 ghost use Rattle.fo_core.specs.Sorted.{IsSig};
-ghost use Rattle.fo_least.specs.Asked.{is_relation_at};
-ghost use Rattle.fo_least.specs.Cells.{cells as cells_of};
-ghost use Rattle.fo_least.specs.Trials.{trial};
-ghost use Rattle.fo_min.specs.Found.{IsFoundLeast, IsLight};
+ghost use Rattle.fo_core.specs.Asked.{is_relation_at};
+ghost use Rattle.fo_core.specs.Cells.{cells as cells_of};
+ghost use Rattle.fo_core.specs.Trials.{trial};
+ghost use Rattle.fo_min.specs.Found.{IsFoundLeast};
 ghost use Rattle.fo_min.specs.Search.{range_at, IsQueryAnswer, IsSettled, IsSizeFound, AreSizesFound, IsValueFound, AreValuesFound};
+ghost use Rattle.fo_core.specs.Finds.{IsLight};
 
 use crate::building::{size_trial, value_trial};
 use crate::found::{Excess, Least};
 use crate::places::cells;
 use crate::world::world_from;
-use fo_core::{Finder, Found, Order, Query, Seq, System, World};
-use fo_least::Cell;
+use fo_core::{Cell, Finder, Found, Order, Query, Seq, System, World};
 use std::alloc::{AllocError, Global};
 
 /// What a query showed.

@@ -2,8 +2,8 @@ ghost use Rattle.std.specs.Prelude.{true, false, ◌≡◌, ◌<◌, ◌≤◌, 
 ghost use Rattle.std.specs.List.{All, filter};
 ghost use Rattle.fo_core.specs.Sorted.{HasSorts, IsSig};
 ghost use Rattle.fo_core.specs.Tables.{tuples, is_like, Fits};
-ghost use Rattle.fo_least.specs.Cells.{cells};
-ghost use Rattle.fo_least.specs.Least.{world_values};
+ghost use Rattle.fo_core.specs.Cells.{cells};
+ghost use Rattle.fo_core.specs.Least.{world_values};
 ghost use Rattle.fo_min.specs.Cut.{value_count, counts_like, cut as cut_of, cut_copies as cut_copies_of, AreInRange};
 
 use fo_core::{Seq, Sig, Symbol, Table, World};

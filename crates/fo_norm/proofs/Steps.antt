@@ -1,9 +1,9 @@
 -- What a step of the code adds to the Skolem form.
 use Rattle.std.proofs.Common.{◌≡◌, ℕ, Bool, true, false, not, ◌+◌, ◌<◌, List, [], ◌∷◌, ◌++◌, length, get_or, take, sym, ap, subst, ◌∙◌, arith, length-append, append_assoc}
 use Rattle.std.proofs.lemmas.List.{take_more}
-use Rattle.fo_core.specs.declared.syntax.Symbol.{Symbol}
-use Rattle.fo_core.specs.declared.syntax.Formula.{Formula}
-use Rattle.fo_core.specs.declared.syntax.Formula.TheVariants as F
+use Rattle.fo_core.specs.declared.signature.Symbol.{Symbol}
+use Rattle.fo_core.specs.declared.formula.Formula.{Formula}
+use Rattle.fo_core.specs.declared.formula.Formula.TheVariants as F
 use Rattle.fo_norm.specs.declared.scope.Slot.{Slot}
 use Rattle.fo_core.specs.Skolems.{skolem_symbols, skolem_symbols_list}
 use Rattle.fo_norm.specs.Skolem.{joined, formed, formed_list, universal, existential, universal_symbols, existential_symbols}

@@ -5,12 +5,12 @@ use Rattle.std.proofs.lemmas.List.{append-nil}
 use Rattle.fo_core.proofs.Zips.{AllZip-at}
 use denote.Hole.Carrier.{hidden}
 use Rattle.fo_core.specs.declared.query.Query.{Query}
-use Rattle.fo_core.specs.declared.syntax.Sig.{Sig}
-use Rattle.fo_core.specs.declared.syntax.Term.{Term, Row_of-Term, end_of-Term, more_of-Term, items-the_row-Term, items_hidden-the_row-Term-0}
-use Rattle.fo_core.specs.declared.syntax.Term.TheVariants as T
-use Rattle.fo_core.specs.declared.syntax.Formula.{Formula, Row_of-Formula, end_of-Formula, more_of-Formula, items-the_row-Formula, items_hidden-the_row-Formula-1}
-use Rattle.fo_core.specs.declared.syntax.Formula.TheBlock.{shape-the_row-Formula-0, hidden-the_row-Formula-0}
-use Rattle.fo_core.specs.declared.syntax.Formula.TheVariants as F
+use Rattle.fo_core.specs.declared.signature.Sig.{Sig}
+use Rattle.fo_core.specs.declared.term.Term.{Term, Row_of-Term, end_of-Term, more_of-Term, items-the_row-Term, items_hidden-the_row-Term-0}
+use Rattle.fo_core.specs.declared.term.Term.TheVariants as T
+use Rattle.fo_core.specs.declared.formula.Formula.{Formula, Row_of-Formula, end_of-Formula, more_of-Formula, items-the_row-Formula, items_hidden-the_row-Formula-1}
+use Rattle.fo_core.specs.declared.formula.Formula.TheBlock.{shape-the_row-Formula-0, hidden-the_row-Formula-0}
+use Rattle.fo_core.specs.declared.formula.Formula.TheVariants as F
 use Rattle.fo_core.specs.Sorted.{IsTerm}
 use Rattle.fo_core.specs.Tables.{symbol_at}
 use Rattle.fo_core.proofs.Rows.{row_of, args_of, sorted-Not, sorted-And, sorted-Or, sorted-All, sorted-Ex, sorted-App}

@@ -1,6 +1,6 @@
 ghost use Rattle.std.specs.Prelude.{ℕ, List, true, ◌≡◌, ◌+◌, ◌++◌, [], ◌<◌, ◌^◌, ◌-◌, ◌↔◌, IfOk, OnOk, map, length, not};
 ghost use Rattle.std.specs.List.{All};
-ghost use Rattle.fo_core.specs.declared.syntax.Formula.TheVariants as F;
+ghost use Rattle.fo_core.specs.declared.formula.Formula.TheVariants as F;
 ghost use Rattle.fo_core.specs.declared.world.World.{World};
 ghost use Rattle.fo_core.specs.Queries.{IsQuery, MeetsQuery};
 ghost use Rattle.fo_core.specs.Skolems.{skolem_symbols, skolem_symbols_list, extended};

@@ -1,7 +1,7 @@
 -- A finder's answer from the form of a query.
 use Rattle.std.proofs.Common.{ℕ, ◌↔◌, List}
 use Rattle.fo_core.specs.declared.query.Query.{Query}
-use Rattle.fo_core.specs.declared.syntax.Sig.{Sig}
+use Rattle.fo_core.specs.declared.signature.Sig.{Sig}
 use Rattle.fo_core.specs.Skolems.{extended}
 use Rattle.fo_core.specs.SortGraph.{FunctionEdge, ClaimsEdge, Rises}
 use Rattle.fo_norm.specs.declared.form.SkolemForm.{SkolemForm}

@@ -2,7 +2,7 @@
 use Rattle.std.proofs.Common.{◌≡◌, ◌∙◌, sym, subst, ap}
 use Rattle.fo_core.specs.declared.finder.Found.{Found}
 use Rattle.fo_core.specs.declared.query.Query.{Query}
-use Rattle.fo_core.specs.declared.syntax.System.{System}
+use Rattle.fo_core.specs.declared.system.System.{System}
 use Rattle.fo_core.specs.Finds.{IsAnswer}
 use Rattle.fo_solve.specs.declared.recorded.Kept.{Kept}
 use Rattle.fo_solve.specs.Kept.{Record, AreAnswers, IsNext}

@@ -36,7 +36,7 @@ pub struct Recorded {
 impl Model for Recorded {
     ghost use Rattle.std.specs.Prelude.{◌≤◌};
     ghost use Rattle.std.specs.Coded.{codes};
-    ghost use Rattle.fo_core.specs.contracts.syntax.Formula as formula;
+    ghost use Rattle.fo_core.specs.contracts.formula.Formula as formula;
     ghost use Rattle.fo_solve.specs.Kept.{Record, AreAnswers};
 
     ghost Value = { Record };

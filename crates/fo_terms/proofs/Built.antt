@@ -3,7 +3,7 @@ use Rattle.std.proofs.Common.{◌≡◌, ◌≢◌, ℕ, ◌<◌, ◌^◌, List,
 use Rattle.std.specs.List.{All, AllPairs, flat_map}
 use Rattle.std.specs.Prelude.{slice_index}
 use Rattle.std.proofs.lemmas.List.Elements.{All-weaker}
-use Rattle.fo_core.specs.declared.syntax.Sig.{Sig}
+use Rattle.fo_core.specs.declared.signature.Sig.{Sig}
 use Rattle.fo_core.specs.SortGraph.{FunctionEdge, Rises}
 use Rattle.fo_core.specs.Sorted.{IsSig}
 use Rattle.fo_core.specs.Tables.{symbol_at}

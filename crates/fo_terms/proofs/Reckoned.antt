@@ -4,7 +4,7 @@ use Rattle.std.specs.List.{All, AllZip}
 use Rattle.std.specs.Prelude.{slice_index}
 use Rattle.std.proofs.lemmas.List.{drop_all, get_or-map, length-map}
 use Rattle.std.proofs.lemmas.List.Elements.{All-drop, All-weaker}
-use Rattle.fo_core.specs.declared.syntax.Sig.{Sig}
+use Rattle.fo_core.specs.declared.signature.Sig.{Sig}
 use Rattle.fo_core.specs.Sorted.{HasSorts, IsSymbol}
 use Rattle.fo_core.specs.Tables.{no_symbol, symbol_at, tuples, place}
 use Rattle.fo_core.proofs.PlaceLemmas.{above_some}

@@ -4,8 +4,8 @@ use Rattle.std.specs.List.{All}
 use Rattle.std.specs.Prelude.{slice_index}
 use Rattle.std.proofs.lemmas.List.{get_or_read, get_or_default}
 use Rattle.std.proofs.lemmas.List.Elements.{All-contains, Contains-get_or}
-use Rattle.fo_core.specs.declared.syntax.Sig.{Sig}
-use Rattle.fo_core.specs.declared.syntax.Symbol.{Symbol}
+use Rattle.fo_core.specs.declared.signature.Sig.{Sig}
+use Rattle.fo_core.specs.declared.signature.Symbol.{Symbol}
 use Rattle.fo_core.specs.SortGraph.{FunctionEdge, Leads, Rises}
 use Rattle.fo_core.specs.Tables.{no_symbol, symbol_at}
 

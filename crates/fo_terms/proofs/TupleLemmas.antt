@@ -7,33 +7,13 @@ use Rattle.std.proofs.lemmas.List.Elements.{All-head, All-tail, All-nil, All-con
 use Rattle.std.proofs.lemmas.Nat.{div-mul-add, mod-mul-add, div-add-mod'}
 use Rattle.fo_core.specs.Tables.{tuples, place}
 use Rattle.fo_core.specs.Weights.{power}
-use Rattle.fo_core.proofs.TableLemmas.{place-lt}
+use Rattle.fo_core.proofs.TupleLemmas.{tuple-place, tuple-below, place-tuple}
 use Rattle.fo_terms.specs.declared.terms.Ground.{Ground}
 use Rattle.fo_terms.specs.Arranged.{offsets}
-use Rattle.fo_terms.specs.Blocks.{arguments_at, raised, tuple_at}
+use Rattle.fo_terms.specs.Blocks.{arguments_at, raised}
 use Rattle.fo_terms.specs.Universe.{IsOf, AreOf}
 use Rattle.fo_terms.proofs.BaseLemmas.{factor-positive}
-
-pub tuple-place : (ns xs : List ℕ) → AllZip (λ x n. x < n) xs ns → tuple_at ns (place ns xs) ≡ xs
-tuple-place [] [] h = refl
-tuple-place [] (x ∷ xs) h = absurd h
-tuple-place (n ∷ ns) [] h = absurd h
-tuple-place (n ∷ ns) (x ∷ xs) h =
-    let lt = place-lt ns xs h.1 in
-    ap (λ d. d ∷ tuple_at ns ((x * tuples ns + place ns xs) % tuples ns)) (div-mul-add x (tuples ns) (place ns xs) lt)
-    ∙ ap (λ r. x ∷ tuple_at ns r) (mod-mul-add x (tuples ns) (place ns xs) lt) ∙ ap (λ ys. x ∷ ys) (tuple-place ns xs h.1)
-
-pub tuple-below : (ns : List ℕ) (j : ℕ) → j < tuples ns → AllZip (λ x n. x < n) (tuple_at ns j) ns
-tuple-below [] j lt = tt
-tuple-below (n ∷ ns) j lt =
-    let some = factor-positive n (tuples ns) j lt in
-    ((div-lt_iff_lt-mul some).1 lt, tuple-below ns (j % tuples ns) (mod-lt j some))
-
-pub place-tuple : (ns : List ℕ) (j : ℕ) → j < tuples ns → place ns (tuple_at ns j) ≡ j
-place-tuple [] j lt = omega arith
-place-tuple (n ∷ ns) j lt =
-    let some = factor-positive n (tuples ns) j lt in
-    ap (λ r. j / tuples ns * tuples ns + r) (place-tuple ns (j % tuples ns) (mod-lt j some)) ∙ div-add-mod' j (tuples ns)
+use Rattle.fo_core.specs.Tuples.{tuple_at}
 
 -- where the terms of these sorts stand from their first places on
 module _ (ts : List Ground) (firsts sizes : List ℕ) where

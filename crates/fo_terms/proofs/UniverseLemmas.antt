@@ -5,7 +5,7 @@ use Rattle.std.specs.Prelude.{slice_index}
 use Rattle.std.proofs.lemmas.Bool.{cases_lt}
 use Rattle.std.proofs.lemmas.List.{take_all, take-take}
 use Rattle.std.proofs.lemmas.List.Elements.{All-map, All-take, All-weaker}
-use Rattle.fo_core.specs.declared.syntax.Sig.{Sig}
+use Rattle.fo_core.specs.declared.signature.Sig.{Sig}
 use Rattle.fo_core.specs.SortGraph.{FunctionEdge, Rises}
 use Rattle.fo_core.specs.Sorted.{HasSorts, IsSymbol}
 use Rattle.fo_core.specs.Tables.{no_symbol, symbol_at, place}
@@ -13,7 +13,7 @@ use Rattle.fo_core.specs.Weights.{added, power}
 use Rattle.fo_core.proofs.TableLemmas.{place-lt, tuples-positive}
 use Rattle.fo_terms.specs.declared.terms.Ground.{Ground}
 use Rattle.fo_terms.specs.Arranged.{IsArranged, offsets, place_of}
-use Rattle.fo_terms.specs.Blocks.{AreFirsts, IsRanking, application, sort_block, spare_of, function_numbers, tuple_at}
+use Rattle.fo_terms.specs.Blocks.{AreFirsts, IsRanking, application, sort_block, spare_of, function_numbers}
 use Rattle.fo_core.specs.TermCounts.{copies_of, applications, term_counts, AreCounts}
 use Rattle.fo_terms.specs.Universe.{IsApplied, IsOf, AreOf, IsSpare, IsTermOf, IsUniverse, no_ground, sort_at, spare, term_at}
 use Rattle.fo_terms.proofs.BlockLemmas.{IsAlone, IsEntry, at-block, block-cases, block-length, cover, earlier, flat-at}
@@ -22,6 +22,7 @@ use Rattle.fo_terms.proofs.Functions.{count-none, count-some, leads_to-is, numbe
 use Rattle.fo_terms.proofs.RankLemmas.{ranked-at, ranked-total, ranked-within}
 use Rattle.fo_terms.proofs.Sums.{added-at, added-more, added-same, added-take, length-flat_map}
 use Rattle.fo_terms.proofs.TupleLemmas.{InBlock, arguments-before, arguments-place, offsets-below, place-arguments, raised-are, tuple-below}
+use Rattle.fo_core.specs.Tuples.{tuple_at}
 
 module _ (sig : Sig) (n : ℕ) (numbers ranked firsts : List ℕ) (some_copy : 1 ≤ n) (few : length sig.symbols < spare) (sorted : All (HasSorts sig.sorts) sig.symbols)
     (rises : Rises (FunctionEdge sig) sig.sorts numbers) (ranking : IsRanking numbers ranked) (at_first : AreFirsts ranked (term_counts sig n) firsts) where

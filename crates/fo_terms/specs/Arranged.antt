@@ -1,7 +1,7 @@
 -- In which order a universe has the ground terms.
 use Rattle.std.specs.Prelude.{◌≡◌, ◌↔◌, ℕ, ◌+◌, ◌-◌, ◌*◌, ◌<◌, ◌≤◌, false, List, [], ◌∷◌, length, map, sum, take, slice_index}
 use Rattle.std.specs.List.{filter}
-use Rattle.fo_core.specs.declared.syntax.Sig.{Sig}
+use Rattle.fo_core.specs.declared.signature.Sig.{Sig}
 use Rattle.fo_core.specs.Sorted.{IsSymbol}
 use Rattle.fo_core.specs.Tables.{symbol_at, place}
 use Rattle.fo_core.specs.Weights.{added, power}

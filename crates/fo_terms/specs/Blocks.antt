@@ -1,10 +1,11 @@
 -- The list of ground terms, written out sort by sort.
-use Rattle.std.specs.Prelude.{◌≡◌, ℕ, ◌+◌, ◌/◌, ◌%◌, ◌^◌, ◌<◌, ◌≤◌, ◌==◌, cond, List, [], ◌∷◌, length, map, take, slice_index}
+use Rattle.std.specs.Prelude.{◌≡◌, ℕ, ◌+◌, ◌^◌, ◌<◌, ◌≤◌, ◌==◌, cond, List, [], ◌∷◌, length, map, take, slice_index}
 use Rattle.std.specs.List.{filter, flat_map, range_with_len}
 use Rattle.std.specs.List.Sorted.{IsPermutation}
-use Rattle.fo_core.specs.declared.syntax.Sig.{Sig}
-use Rattle.fo_core.specs.declared.syntax.Symbol.{Symbol}
-use Rattle.fo_core.specs.Tables.{symbol_at, tuples}
+use Rattle.fo_core.specs.declared.signature.Sig.{Sig}
+use Rattle.fo_core.specs.declared.signature.Symbol.{Symbol}
+use Rattle.fo_core.specs.Tables.{symbol_at}
+use Rattle.fo_core.specs.Tuples.{tuple_at}
 use Rattle.fo_core.specs.Weights.{added, power}
 use Rattle.fo_terms.specs.declared.terms.Ground.{Ground}
 use Rattle.fo_core.specs.TermCounts.{leads_to, copies_of}
@@ -23,11 +24,6 @@ pub record AreFirsts (ranked sizes firsts : List ℕ) : Type 0 where
 -- the numbers of the functions with values of sort t
 abbrev pub function_numbers : Sig → ℕ → List ℕ
 function_numbers sig t = filter (λ k. leads_to t (symbol_at sig k)) (range_with_len 0 (length sig.symbols))
-
--- the tuple of elements below these sizes that has this place in lexicographic order
-abbrev pub tuple_at : List ℕ → ℕ → List ℕ
-tuple_at [] j = []
-tuple_at (n ∷ ns) j = j / tuples ns ∷ tuple_at ns (j % tuples ns)
 
 -- the places that lie so far behind the first places of these sorts
 abbrev pub raised : List ℕ → List ℕ → List ℕ → List ℕ

@@ -1,7 +1,7 @@
 -- The weight of a Skolem form.
 use Rattle.std.specs.Prelude.{ℕ, ◌+◌, ◌<◌, ◌≤◌, ◌^◌, List, sum}
 use Rattle.std.specs.List.{All}
-use Rattle.fo_core.specs.declared.syntax.Sig.{Sig}
+use Rattle.fo_core.specs.declared.signature.Sig.{Sig}
 use Rattle.fo_core.specs.Weights.{claim_nodes, skolem_nodes}
 use Rattle.fo_norm.specs.declared.form.SkolemForm.{SkolemForm}
 use Rattle.fo_core.specs.QueryWeight.{cut, signature_weight}

@@ -1,6 +1,6 @@
 -- What the place of a term is reckoned from.
 use Rattle.std.specs.Prelude.{◌≡◌, ℕ, ◌+◌, ◌<◌, false, length, slice_index}
-use Rattle.fo_core.specs.declared.syntax.Sig.{Sig}
+use Rattle.fo_core.specs.declared.signature.Sig.{Sig}
 use Rattle.fo_core.specs.Tables.{symbol_at}
 use Rattle.fo_terms.specs.declared.places.Places.{Places}
 use Rattle.fo_terms.specs.declared.terms.Universe.{Universe}

@@ -1,7 +1,7 @@
 -- Ground terms. An argument is named by the place at which it stands in a list of ground terms.
 use Rattle.std.specs.Prelude.{◌≡◌, ℕ, ◌<◌, ◌⊎◌, false, List, [], length, slice_index_or}
 use Rattle.std.specs.List.{All, AllZip}
-use Rattle.fo_core.specs.declared.syntax.Sig.{Sig}
+use Rattle.fo_core.specs.declared.signature.Sig.{Sig}
 use Rattle.fo_core.specs.Sorted.{IsSymbol}
 use Rattle.fo_core.specs.Tables.{symbol_at}
 use Rattle.fo_terms.specs.declared.terms.Ground.{Ground}

@@ -1,7 +1,7 @@
 -- What has to hold of a formula so that its nodes can be counted.
 use Rattle.std.specs.Prelude.{◌≡◌, ℕ, List}
-use Rattle.fo_core.specs.declared.syntax.Formula.{Formula}
-use Rattle.fo_core.specs.declared.syntax.Sig.{Sig}
+use Rattle.fo_core.specs.declared.formula.Formula.{Formula}
+use Rattle.fo_core.specs.declared.signature.Sig.{Sig}
 use Rattle.fo_core.specs.Sorted.{IsFormula}
 
 -- a formula that is well-sorted for a signature of so many sorts

@@ -2,7 +2,7 @@
 use Rattle.std.proofs.Common.{◌≡◌, ℕ, ◌+◌, ◌<◌, ◌≤◌, ◌++◌, List, [], ◌∷◌, length, refl, sym, ap, ap₂, ◌∙◌, subst, inl, inr, ◌⊎◌, arith, length-append, append-nil}
 use Rattle.std.specs.Prelude.{Option, None}
 use Rattle.fo_core.specs.declared.names.Names.{Names}
-use Rattle.fo_core.specs.declared.syntax.Sig.{Sig}
+use Rattle.fo_core.specs.declared.signature.Sig.{Sig}
 use Rattle.pyv_meaning.specs.declared.variable.Use.{Use}
 use Rattle.pyv_meaning.specs.declared.variable.Use.TheVariants.{Binder as Binds}
 use Rattle.pyv_meaning.specs.Bodies.{params_of, closure_in, scope_in, part_uses, body_uses, at_part, parts_fault}

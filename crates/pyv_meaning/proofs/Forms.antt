@@ -2,10 +2,10 @@
 use Rattle.std.proofs.Common.{◌≡◌, ℕ, ◌+◌, ◌<◌, ◌≤◌, ◌++◌, Bool, true, false, List, [], ◌∷◌, length, map, refl, sym, ap, subst, arith, append_assoc, append-nil}
 use Rattle.std.specs.List.{All}
 use Rattle.std.proofs.lemmas.List.Elements.{All-nil, All-cons, All-head, All-tail}
-use Rattle.fo_core.specs.declared.syntax.Sig.{Sig}
-use Rattle.fo_core.specs.declared.syntax.Term.{Term}
-use Rattle.fo_core.specs.declared.syntax.Formula.{Formula}
-use Rattle.fo_core.specs.declared.syntax.Formula.TheVariants as F
+use Rattle.fo_core.specs.declared.signature.Sig.{Sig}
+use Rattle.fo_core.specs.declared.term.Term.{Term}
+use Rattle.fo_core.specs.declared.formula.Formula.{Formula}
+use Rattle.fo_core.specs.declared.formula.Formula.TheVariants as F
 use Rattle.fo_core.specs.Sorted.{IsTerm, IsFormula, binders}
 use Rattle.fo_core.proofs.Rows.{sorted-Not, sorted-All, sorted-Ex, And-sorted, Or-sorted, binders-Not, binders-All, binders-Ex, And-binders, Or-binders}
 use Rattle.pyv_meaning.specs.Builds.{truth, joined, connected, conditional, compared, differ, quantified, closed_over}

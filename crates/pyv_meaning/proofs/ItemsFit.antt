@@ -8,10 +8,10 @@ use Rattle.fo_core.specs.Named.{NamesFit}
 use Rattle.fo_core.specs.Sorted.{IsFormula, AreClosed, HasSorts, IsSig, IsStepOf, IsSystem, binders, NestAtMost, IsWithinDepth}
 use Rattle.fo_core.specs.Tables.{no_symbol}
 use Rattle.fo_core.specs.declared.names.Names.{Names}
-use Rattle.fo_core.specs.declared.syntax.Sig.{Sig}
-use Rattle.fo_core.specs.declared.syntax.Step.{Step}
-use Rattle.fo_core.specs.declared.syntax.System.{System}
-use Rattle.fo_core.specs.declared.syntax.Formula.{Formula}
+use Rattle.fo_core.specs.declared.signature.Sig.{Sig}
+use Rattle.fo_core.specs.declared.system.Step.{Step}
+use Rattle.fo_core.specs.declared.system.System.{System}
+use Rattle.fo_core.specs.declared.formula.Formula.{Formula}
 use Rattle.fo_core.proofs.Zips.{AllZip-length}
 use Rattle.pyv_meaning.specs.Bodies.{ClaimMeans, StepMeans}
 use Rattle.pyv_meaning.specs.Declaring.{words, symbol_names, names_in, sort_number, result_number, symbol_in, sig_in, IsSort, IsDeclared, AreDeclared}

@@ -4,7 +4,7 @@ use Rattle.std.specs.Prelude.{Option, Some, None, IfSome, nat_lt}
 use Rattle.std.proofs.lemmas.Bool.{eqb-true}
 use Rattle.fo_core.specs.Tables.{symbol_at}
 use Rattle.fo_core.specs.declared.names.Names.{Names}
-use Rattle.fo_core.specs.declared.syntax.Sig.{Sig}
+use Rattle.fo_core.specs.declared.signature.Sig.{Sig}
 use Rattle.pyv_meaning.specs.declared.fault.SortFault.TheVariants.{TooMany}
 use Rattle.pyv_meaning.specs.declared.stand.Stand.{Stand}
 use Rattle.pyv_meaning.specs.declared.variable.Meaning.{Meaning}

@@ -5,9 +5,9 @@ use Rattle.std.specs.List.{All}
 use Rattle.std.proofs.lemmas.List.Elements.{All-nil, All-cons, All-head, All-tail}
 use Rattle.fo_core.specs.Sorted.{IsFormula, binders}
 use Rattle.fo_core.specs.declared.names.Names.{Names}
-use Rattle.fo_core.specs.declared.syntax.Sig.{Sig}
-use Rattle.fo_core.specs.declared.syntax.Formula.{Formula}
-use Rattle.fo_core.specs.declared.syntax.Formula.TheVariants as F
+use Rattle.fo_core.specs.declared.signature.Sig.{Sig}
+use Rattle.fo_core.specs.declared.formula.Formula.{Formula}
+use Rattle.fo_core.specs.declared.formula.Formula.TheVariants as F
 use Rattle.fo_core.proofs.Rows.{And-sorted, And-binders}
 use Rattle.pyv_meaning.specs.declared.variable.Use.TheVariants.{Binder as Binds}
 use Rattle.pyv_meaning.specs.Bodies.{params_of, closure_in, scope_in, part_uses, body_uses, PartMeans, PartsMean, BodyMeans, modifies_fault}

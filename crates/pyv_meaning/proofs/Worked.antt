@@ -2,9 +2,9 @@
 use Rattle.std.proofs.Common.{◌≡◌, ℕ, zero, suc, ◌+◌, ◌++◌, true, false, List, [], ◌∷◌, refl}
 use Rattle.std.specs.Prelude.{Some, None, codes}
 use Rattle.fo_core.specs.declared.names.Names.{Names}
-use Rattle.fo_core.specs.declared.syntax.Sig.{Sig}
-use Rattle.fo_core.specs.declared.syntax.Formula.TheVariants as F
-use Rattle.fo_core.specs.declared.syntax.Term.TheVariants as T
+use Rattle.fo_core.specs.declared.signature.Sig.{Sig}
+use Rattle.fo_core.specs.declared.formula.Formula.TheVariants as F
+use Rattle.fo_core.specs.declared.term.Term.TheVariants as T
 use Rattle.pyv_meaning.specs.declared.fault.SortFault.TheVariants as fault
 use Rattle.pyv_meaning.specs.declared.variable.Use.TheVariants.{Binder as Binds, Is, Alike}
 use Rattle.pyv_meaning.specs.Bodies as bodies

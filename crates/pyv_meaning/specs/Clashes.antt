@@ -1,7 +1,7 @@
 -- The first application or variable of another sort than its place, from left to right.
 use Rattle.std.specs.Prelude.{ℕ, ◌==◌, ◌++◌, Bool, true, List, [], ◌∷◌, Option, Some, None}
 use Rattle.fo_core.specs.declared.names.Names.{Names}
-use Rattle.fo_core.specs.declared.syntax.Sig.{Sig}
+use Rattle.fo_core.specs.declared.signature.Sig.{Sig}
 use Rattle.fo_core.specs.Tables.{symbol_at}
 use Rattle.pyv_meaning.specs.declared.fault.SortFault.{SortFault}
 use Rattle.pyv_meaning.specs.declared.fault.SortFault.TheVariants.{SortClash}

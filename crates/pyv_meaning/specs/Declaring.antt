@@ -4,8 +4,8 @@ use Rattle.std.specs.List.{AllByRecursion, list_all, list_any}
 use Rattle.std.specs.Str.{bytes_eq}
 use Rattle.fo_core.specs.Named.{NamesFit}
 use Rattle.fo_core.specs.declared.names.Names.{Names}
-use Rattle.fo_core.specs.declared.syntax.Sig.{Sig}
-use Rattle.fo_core.specs.declared.syntax.Symbol.{Symbol}
+use Rattle.fo_core.specs.declared.signature.Sig.{Sig}
+use Rattle.fo_core.specs.declared.signature.Symbol.{Symbol}
 use Rattle.pyv_meaning.specs.declared.fault.SortFault.{SortFault}
 use Rattle.pyv_meaning.specs.declared.fault.SortFault.TheVariants.{UnknownName, TwiceDeclared, TooMany}
 use Rattle.pyv_meaning.specs.Gets.{Among}

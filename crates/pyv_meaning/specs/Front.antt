@@ -2,9 +2,9 @@
 use Rattle.std.specs.List.{AllByRecursion, AllZip}
 use Rattle.std.specs.Prelude.{List}
 use Rattle.fo_core.specs.declared.names.Names.{Names}
-use Rattle.fo_core.specs.declared.syntax.Sig.{Sig}
-use Rattle.fo_core.specs.declared.syntax.Step.{Step}
-use Rattle.fo_core.specs.declared.syntax.Formula.{Formula}
+use Rattle.fo_core.specs.declared.signature.Sig.{Sig}
+use Rattle.fo_core.specs.declared.system.Step.{Step}
+use Rattle.fo_core.specs.declared.formula.Formula.{Formula}
 use Rattle.pyv_meaning.specs.Bodies.{ClaimMeans, StepMeans, IsSound}
 use Rattle.pyv_meaning.specs.Items.{Item, Axiom, Init, Safety, Invariant, claims, steps, bodies}
 

@@ -1,7 +1,7 @@
 -- The first fault of the names of an expression, in order of tokens.
 use Rattle.std.specs.Prelude.{ℕ, ◌+◌, ◌==◌, ◌++◌, Bool, true, false, not, nat_lt, cond, List, [], ◌∷◌, length, Option, Some, None}
 use Rattle.fo_core.specs.declared.names.Names.{Names}
-use Rattle.fo_core.specs.declared.syntax.Sig.{Sig}
+use Rattle.fo_core.specs.declared.signature.Sig.{Sig}
 use Rattle.fo_core.specs.Tables.{symbol_at}
 use Rattle.pyv_meaning.specs.declared.fault.SortFault.{SortFault}
 use Rattle.pyv_meaning.specs.declared.fault.SortFault.TheVariants.{UnknownName, NewOutsideStep, NewTwice, NotATerm, NotAFormula, WrongArity, TooMany}

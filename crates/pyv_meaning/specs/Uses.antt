@@ -1,7 +1,7 @@
 -- What an expression tells of the sorts of its variables.
 use Rattle.std.specs.Prelude.{ℕ, ◌==◌, ◌++◌, cond, List, [], ◌∷◌, Option, Some, None}
 use Rattle.fo_core.specs.declared.names.Names.{Names}
-use Rattle.fo_core.specs.declared.syntax.Sig.{Sig}
+use Rattle.fo_core.specs.declared.signature.Sig.{Sig}
 use Rattle.fo_core.specs.Tables.{symbol_at}
 use Rattle.pyv_meaning.specs.declared.variable.Meaning.{Meaning}
 use Rattle.pyv_meaning.specs.declared.variable.Meaning.TheVariants.{Variable, Symbol, Unknown}

@@ -2,7 +2,7 @@
 
 ghost use Rattle.std.specs.Prelude.{◌≡◌, ◌⊎◌, ◌<◌, ◌≤◌, ◌^◌, ℕ, List, length};
 ghost use Rattle.fo_core.specs.declared.names.Names.{Names};
-ghost use Rattle.fo_core.specs.declared.syntax.System.{System};
+ghost use Rattle.fo_core.specs.declared.system.System.{System};
 ghost use Rattle.fo_core.specs.Named.{IsWord, NamesFit};
 ghost use Rattle.fo_core.specs.Sorted.{IsSystem, IsWithinDepth};
 ghost use Rattle.pyv_grammar.specs.declared.tree.Model.{Model};

@@ -7,10 +7,10 @@ use Rattle.std.proofs.lemmas.List.Elements.{All-head, All-tail}
 use Rattle.fo_core.specs.Named.{IsWord, NamesFit}
 use Rattle.fo_core.specs.Sorted.{IsSystem, IsWithinDepth}
 use Rattle.fo_core.specs.declared.names.Names.{Names}
-use Rattle.fo_core.specs.declared.syntax.Sig.{Sig}
-use Rattle.fo_core.specs.declared.syntax.Step.{Step}
-use Rattle.fo_core.specs.declared.syntax.System.{System}
-use Rattle.fo_core.specs.declared.syntax.Formula.{Formula}
+use Rattle.fo_core.specs.declared.signature.Sig.{Sig}
+use Rattle.fo_core.specs.declared.system.Step.{Step}
+use Rattle.fo_core.specs.declared.system.System.{System}
+use Rattle.fo_core.specs.declared.formula.Formula.{Formula}
 use Rattle.pyv_grammar.specs.declared.tree.Decl.{Decl}
 use Rattle.pyv_grammar.specs.declared.tree.Model.{Model}
 use Rattle.pyv_meaning.specs.declared.fault.SortFault.{SortFault}

@@ -3,14 +3,14 @@ use Rattle.std.proofs.Common.{◌≡◌, ℕ, zero, suc, ◌+◌, ◌<◌, ◌�
 use Rattle.std.specs.Prelude.{Option, Some, None, Result, IsUtf8}
 use Rattle.std.specs.List.{AllByRecursion}
 use Rattle.fo_core.specs.declared.names.Names.{Names}
-use Rattle.fo_core.specs.declared.syntax.Sig.{Sig}
+use Rattle.fo_core.specs.declared.signature.Sig.{Sig}
 use Rattle.fo_core.specs.Tables.{symbol_at}
 use Rattle.pv_base.specs.declared.Span.{Span}
 use Rattle.pyv_grammar.specs.declared.tree.Bound.{Bound}
 use Rattle.pyv_meaning.specs.declared.fault.SortFault.{SortFault}
 use Rattle.pyv_meaning.specs.declared.fault.SortFault.TheVariants.{Memory, UnknownName, TwiceDeclared, WrongArity, SortClash, NoSort, NotATerm, NotAFormula, NewOutsideStep, NewTwice, NotMutable, TooMany}
-use Rattle.fo_core.specs.declared.syntax.Formula.{Formula}
-use Rattle.fo_core.specs.declared.syntax.Step.{Step}
+use Rattle.fo_core.specs.declared.formula.Formula.{Formula}
+use Rattle.fo_core.specs.declared.system.Step.{Step}
 use Rattle.pyv_meaning.specs.Bodies.{params_of, mutable_fault, modifies_fault, params_fault, parts_fault, body_fault, IsBodyFault, IsFirstOfBodies, IsSound, BodyMeans, ClaimMeans, StepMeans, modified}
 use Rattle.pyv_meaning.specs.Closing.{parts}
 use Rattle.pyv_meaning.specs.Items.{Item, Body, body_of as bodies_of, step_of, steps, bodies, item_of, items_of}

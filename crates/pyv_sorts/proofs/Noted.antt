@@ -23,8 +23,8 @@ use Rattle.pyv_meaning.proofs.Basics.{true_or_false}
 use Rattle.pyv_meaning.proofs.Words.{word_decided, not_named, words_distinct}
 use Rattle.pyv_meaning.proofs.Lookups.{NoRepeat, same_bytes}
 use Rattle.fo_core.specs.declared.names.Names.{Names}
-use Rattle.fo_core.specs.declared.syntax.Sig.{Sig}
-use Rattle.fo_core.specs.declared.syntax.Symbol.{Symbol as SymbolOf}
+use Rattle.fo_core.specs.declared.signature.Sig.{Sig}
+use Rattle.fo_core.specs.declared.signature.Symbol.{Symbol as SymbolOf}
 use Rattle.pyv_sorts.specs.declared.declare.Declared.{Declared}
 use Rattle.pyv_sorts.specs.Lists.{added, behind}
 use Rattle.pyv_sorts.specs.Noting.{gathered, unknown_in, number_in, symbol_by, IsNoted, Knows}

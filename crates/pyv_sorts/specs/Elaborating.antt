@@ -1,7 +1,7 @@
 -- What is answered of bodies and declarations.
 use Rattle.std.specs.Prelude.{◌≡◌, ℕ, ◌≤◌, ◌⊎◌, Bool, true, List, [], ◌∷◌, length, map, Some, None}
 use Rattle.std.specs.List.{AllByRecursion}
-use Rattle.fo_core.specs.declared.syntax.Formula.{Formula}
+use Rattle.fo_core.specs.declared.formula.Formula.{Formula}
 use Rattle.pv_base.specs.declared.Span.{Span}
 use Rattle.pyv_grammar.specs.declared.tree.Bound.{Bound}
 use Rattle.pyv_grammar.specs.declared.tree.Expr.{Expr}

@@ -1,6 +1,6 @@
 -- What is noted of the declarations of a file.
 use Rattle.std.specs.Prelude.{◌≡◌, ℕ, ◌++◌, Bool, is_none, option_to_list, List, [], ◌∷◌, map, Option, Some, None}
-use Rattle.fo_core.specs.declared.syntax.Symbol.{Symbol}
+use Rattle.fo_core.specs.declared.signature.Symbol.{Symbol}
 use Rattle.pyv_meaning.specs.declared.fault.SortFault.{SortFault}
 use Rattle.pyv_meaning.specs.Declaring.{words, symbol_names, sorts_fault}
 use Rattle.pyv_meaning.specs.Items.{Item, SymbolItem, sorts, symbols, transitions}

@@ -1,7 +1,7 @@
 -- A text and what its model declares.
 use Rattle.std.specs.Prelude.{ℕ, ◌<◌, List, length}
 use Rattle.fo_core.specs.declared.names.Names.{Names}
-use Rattle.fo_core.specs.declared.syntax.Sig.{Sig}
+use Rattle.fo_core.specs.declared.signature.Sig.{Sig}
 use Rattle.pyv_meaning.specs.declared.variable.Meaning.{Meaning}
 use Rattle.pyv_meaning.specs.declared.variable.Meaning.TheVariants as meaning
 

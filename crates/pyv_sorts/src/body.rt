@@ -3,7 +3,7 @@
 ghost use Rattle.std.specs.Prelude.{◌≡◌, ◌++◌, ◌<◌, List, length, map, option_map, slice_index_or, IfOk, IfErr, OnOk};
 ghost use Rattle.pyv_meaning.specs.Builds.{closed_over};
 ghost use Rattle.pyv_meaning.specs.Uses.{binder_uses};
-ghost use Rattle.fo_core.specs.declared.syntax.Formula.TheVariants as F;
+ghost use Rattle.fo_core.specs.declared.formula.Formula.TheVariants as F;
 ghost use Rattle.pyv_meaning.specs.Tree.{Name, Universal, bound_names};
 ghost use Rattle.pyv_meaning.specs.View.{binders_of, views};
 ghost use Rattle.pyv_sorts.specs.Closures.{part_names};

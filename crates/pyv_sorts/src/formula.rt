@@ -1,7 +1,7 @@
 //! The formula of an expression that has no fault.
 
 ghost use Rattle.std.specs.Prelude.{◌≡◌, ◌++◌, ◌∷◌, [], false, map, IfOk, OnOk};
-ghost use Rattle.fo_core.specs.declared.syntax.Formula.TheVariants as F;
+ghost use Rattle.fo_core.specs.declared.formula.Formula.TheVariants as F;
 ghost use Rattle.pyv_meaning.specs.Builds.{connected, conditional as conditional_of, compared, differ, closed_over, copy_of as copy_at, named_term, named_formula, term_of, terms_of, formula_of, formulas_of};
 ghost use Rattle.pyv_meaning.specs.Tree.{Implication, Equivalence, Universal, Existential, bound_names};
 ghost use Rattle.pyv_meaning.specs.View.{binders_of, view, views};

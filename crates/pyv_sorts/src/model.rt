@@ -1,7 +1,7 @@
 ghost use Rattle.std.specs.Prelude.{◌≡◌, ◌<◌, ◌≤◌, ◌^◌, ◌++◌, ℕ, List, [], ◌∷◌, length, map, true, IfOk, IfErr, OnOk, IsUtf8};
 ghost use Rattle.std.specs.List.{AllByRecursion};
 ghost use Rattle.fo_core.specs.declared.names.Names.{Names};
-ghost use Rattle.fo_core.specs.declared.syntax.System.{System};
+ghost use Rattle.fo_core.specs.declared.system.System.{System};
 ghost use Rattle.fo_core.specs.Named.{NamesFit};
 ghost use Rattle.fo_core.specs.Sorted.{IsSystem, IsWithinDepth};
 ghost use Rattle.pyv_meaning.specs.Bodies.{IsSound, ClaimMeans, StepMeans, mutable_fault, modifies_fault, params_fault, modified as modified_of};

@@ -1,8 +1,8 @@
 -- The edges that a formula has below universals of some sorts, constructor by constructor.
 use Rattle.std.proofs.Common.{◌≡◌, ℕ, ◌⊎◌, inl, inr, ◌↔◌, ◌<◌, length, get_or, Bool, true, false, true≢false, not, List, [], ◌∷◌, ◌++◌, sym, ◌∙◌, arith}
 use Rattle.std.specs.List.{Any, Contains}
-use Rattle.fo_core.specs.declared.syntax.Formula.{Formula}
-use Rattle.fo_core.specs.declared.syntax.Formula.TheVariants as F
+use Rattle.fo_core.specs.declared.formula.Formula.{Formula}
+use Rattle.fo_core.specs.declared.formula.Formula.TheVariants as F
 use Rattle.fo_core.specs.SortGraph.{HasExistential, FormulaEdge}
 use Rattle.fo_core.proofs.EdgeRows.{existential-Not, existential-All, existential-Ex, existential-And, existential-Or, edge-Not, edge-All, edge-Ex, edge-And, edge-Or}
 use Rattle.pyv_strat.proofs.EdgeLemmas.{contains-push}

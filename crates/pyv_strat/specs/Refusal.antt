@@ -1,6 +1,6 @@
 -- What a refusal says.
 use Rattle.std.specs.Prelude.{ℕ, List, ⊤}
-use Rattle.fo_core.specs.declared.syntax.System.{System}
+use Rattle.fo_core.specs.declared.system.System.{System}
 use Rattle.fo_core.specs.declared.order.Purpose.{Purpose}
 use Rattle.fo_core.specs.SortGraph.{SortEdge, IsStratified, IsFirstCycle}
 use Rattle.pyv_strat.specs.declared.strat.StratFault.{StratFault}

@@ -2,11 +2,11 @@
 use Rattle.std.proofs.Common.{◌≡◌, ℕ, zero, suc, Bool, true, false, not, true≢false, ◌↔◌, ◌⊎◌, inl, inr, Option, Some, None, ◌+◌, ◌<◌, ◌≤◌, [], length, get_or, refl, ap, subst, sym, ◌∙◌, arith, add-one}
 use Rattle.std.specs.Prelude.{MatchOption, is_some}
 use Rattle.std.proofs.lemmas.Bool.{cases_lt}
-use Rattle.fo_core.specs.declared.syntax.Step.{Step}
+use Rattle.fo_core.specs.declared.system.Step.{Step}
 use Rattle.std.specs.List.{All}
-use Rattle.fo_core.specs.declared.syntax.System.{System}
+use Rattle.fo_core.specs.declared.system.System.{System}
 use Rattle.std.proofs.lemmas.List.{get_or_default}
-use Rattle.fo_core.specs.declared.syntax.Formula.{True}
+use Rattle.fo_core.specs.declared.formula.Formula.{True}
 use Rattle.fo_core.specs.declared.world.World.{World}
 use Rattle.fo_core.specs.Truth.{Truth}
 use Rattle.fo_core.specs.Runs.{IsState, IsInitial, IsStep, IsRun, IsViolatingRun, Violates}

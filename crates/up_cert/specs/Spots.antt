@@ -1,6 +1,6 @@
 -- The first spot at which a world fails to be a violating run.
 use Rattle.std.specs.Prelude.{◌≡◌, ℕ, ◌+◌, ◌-◌, ◌<◌, length}
-use Rattle.fo_core.specs.declared.syntax.System.{System}
+use Rattle.fo_core.specs.declared.system.System.{System}
 use Rattle.fo_core.specs.declared.world.World.{World}
 use Rattle.fo_core.specs.Runs.{IsState, IsInitial, IsStep, Violates}
 use Rattle.up_cert.specs.declared.spot.Spot.{Spot}

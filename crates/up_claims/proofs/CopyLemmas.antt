@@ -1,8 +1,8 @@
 -- What formulas that are said of a copy say, and their edges.
 use Rattle.std.proofs.Common.{◌≡◌, ℕ, true, false, ◌+◌, ◌<◌, ◌≤◌, ◌^◌, List, [], get_or, sym, subst, arith}
 use Rattle.std.specs.List.{All}
-use Rattle.fo_core.specs.declared.syntax.Sig.{Sig}
-use Rattle.fo_core.specs.declared.syntax.Formula.{Formula}
+use Rattle.fo_core.specs.declared.signature.Sig.{Sig}
+use Rattle.fo_core.specs.declared.formula.Formula.{Formula}
 use Rattle.fo_core.specs.declared.world.World.{World}
 use Rattle.fo_core.specs.Shift.{shift, CanShift}
 use Rattle.fo_core.specs.SortGraph.{FormulaEdge, FormulasEdge, Rises}
@@ -15,7 +15,7 @@ use Rattle.fo_core.proofs.ShiftEdges.{edge-moved}
 use Rattle.fo_core.proofs.ShiftRows.{shift-sorted}
 use Rattle.fo_core.proofs.ShiftTruth.{truth-moved}
 use Rattle.up_claims.specs.Claims.{at_copy, denied}
-use Rattle.up_claims.proofs.Lists.{cast, back, any_as, any_map, all_as, all_map, all_mapped}
+use Rattle.fo_core.proofs.ListFacts.{cast, back, any_as, any_map, all_as, all_map, all_mapped}
 
 -- what rises along some edges rises along fewer
 pub rises-fewer : (E G : ℕ → ℕ → Type 0) (sorts : ℕ) (numbers : List ℕ) → ((a b : ℕ) → G a b → E a b) → Rises E sorts numbers → Rises G sorts numbers

@@ -3,12 +3,12 @@ use Rattle.std.proofs.Common.{◌≡◌, ℕ, zero, suc, Bool, true, false, cond
 use Rattle.std.specs.List.{All, Any}
 use Rattle.std.specs.Prelude.{slice_index}
 use Rattle.std.proofs.lemmas.List.Elements.{All-nil, All-cons, All-head, All-tail}
-use Rattle.fo_core.specs.declared.syntax.Sig.{Sig}
-use Rattle.fo_core.specs.declared.syntax.Symbol.{Symbol}
-use Rattle.fo_core.specs.declared.syntax.Term.{Term}
-use Rattle.fo_core.specs.declared.syntax.Term.TheVariants as T
-use Rattle.fo_core.specs.declared.syntax.Formula.{Formula, Rel}
-use Rattle.fo_core.specs.declared.syntax.Formula.TheVariants as F
+use Rattle.fo_core.specs.declared.signature.Sig.{Sig}
+use Rattle.fo_core.specs.declared.signature.Symbol.{Symbol}
+use Rattle.fo_core.specs.declared.term.Term.{Term}
+use Rattle.fo_core.specs.declared.term.Term.TheVariants as T
+use Rattle.fo_core.specs.declared.formula.Formula.{Formula, Rel}
+use Rattle.fo_core.specs.declared.formula.Formula.TheVariants as F
 use Rattle.fo_core.specs.declared.world.Table.{Table}
 use Rattle.fo_core.specs.declared.world.World.{World}
 use Rattle.fo_core.specs.Tables.{symbol_at, table_of, entry, place, arg_sizes, Fits, IsTable}
@@ -22,10 +22,11 @@ use Rattle.fo_core.proofs.Rows.{truth-Not, truth-And, truth-Or, value-App, sorte
 use Rattle.fo_core.proofs.EdgeRows.{existential-Not, existential-And, existential-Or, edge-Not, edge-And, edge-Or}
 use Rattle.fo_core.proofs.TableLemmas.{table_is, place-lt}
 use Rattle.fo_core.proofs.Zips.{AllZip-length}
-use Rattle.up_claims.specs.Transitions.{variables, same, keeps}
-use Rattle.up_claims.proofs.Binders.{all_over-from, all_over-to, variables-values, variables-sorted, all_over-sorted, all_over-edge}
-use Rattle.up_claims.proofs.Lists.{cast, back, any_cases, any_first, any_later, any_one}
+use Rattle.up_claims.specs.Transitions.{same, keeps}
+use Rattle.fo_core.proofs.Binders.{all_over-from, all_over-to, variables-values, variables-sorted, all_over-sorted, all_over-edge}
+use Rattle.fo_core.proofs.ListFacts.{cast, back, any_cases, any_first, any_later, any_one}
 use Rattle.up_claims.proofs.Places.{same-tables}
+use Rattle.fo_core.specs.Over.{variables}
 
 -- two truth values, of which one is 1 exactly where the other is
 equal_bits : (x y : ℕ) → x < 2 → y < 2 → (x ≡ 1 → y ≡ 1) → (y ≡ 1 → x ≡ 1) → x ≡ y

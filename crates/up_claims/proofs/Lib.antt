@@ -1,9 +1,8 @@
-pub mod Binders
 pub mod CaseLemmas
 pub mod CopyLemmas
 pub mod InductiveLemmas
 pub mod Kept
-pub mod Lists
+pub mod EdgesOf
 pub mod Places
 pub mod TransitionLemmas
 pub mod UnrollLemmas

@@ -4,7 +4,7 @@ use Rattle.std.proofs.lemmas.Bool.{cases_lt}
 use Rattle.std.proofs.lemmas.List.{ext_get_or}
 use Rattle.std.specs.List.{AllZip}
 use Rattle.std.specs.Prelude.{slice_index}
-use Rattle.fo_core.specs.declared.syntax.Symbol.{Symbol}
+use Rattle.fo_core.specs.declared.signature.Symbol.{Symbol}
 use Rattle.fo_core.specs.declared.world.Table.{Table}
 use Rattle.fo_core.specs.Tables.{tuples, place, arg_sizes, IsTable}
 use Rattle.fo_core.specs.Runs.{AreElements}

@@ -5,12 +5,12 @@ use Rattle.std.proofs.lemmas.Bool.Decides.{Decides-eqb}
 use Rattle.std.specs.List.{All, Any, Contains, list_any}
 use Rattle.std.specs.Prelude.{slice_index, ◌==◌, ◌||◌}
 use Rattle.std.proofs.lemmas.List.Elements.{All-nil, All-cons, All-head, All-tail, All-append}
-use Rattle.fo_core.specs.declared.syntax.Sig.{Sig}
-use Rattle.fo_core.specs.declared.syntax.Step.{Step}
-use Rattle.fo_core.specs.declared.syntax.Symbol.{Symbol}
-use Rattle.fo_core.specs.declared.syntax.System.{System}
-use Rattle.fo_core.specs.declared.syntax.Formula.{Formula}
-use Rattle.fo_core.specs.declared.syntax.Formula.TheVariants as F
+use Rattle.fo_core.specs.declared.signature.Sig.{Sig}
+use Rattle.fo_core.specs.declared.system.Step.{Step}
+use Rattle.fo_core.specs.declared.signature.Symbol.{Symbol}
+use Rattle.fo_core.specs.declared.system.System.{System}
+use Rattle.fo_core.specs.declared.formula.Formula.{Formula}
+use Rattle.fo_core.specs.declared.formula.Formula.TheVariants as F
 use Rattle.fo_core.specs.declared.world.World.{World}
 use Rattle.fo_core.specs.Tables.{no_symbol, symbol_at, Fits}
 use Rattle.fo_core.specs.Truth.{Truth}
@@ -21,9 +21,9 @@ use Rattle.fo_core.proofs.Rows.{truth-And, truth-Or, And-sorted, Or-sorted}
 use Rattle.fo_core.proofs.EdgeRows.{edge-And, edge-Or}
 use Rattle.fo_core.proofs.Zips.{AllZip-length}
 use Rattle.up_claims.specs.Transitions.{keeps, is_kept, kept_below, transition_claim, any_transition}
-use Rattle.up_claims.proofs.Binders.{some_over-from, some_over-to, some_over-sorted, some_over-edge}
+use Rattle.fo_core.proofs.Binders.{some_over-from, some_over-to, some_over-sorted, some_over-edge}
 use Rattle.up_claims.proofs.Kept.{keeps-from, keeps-to, keeps-sorted, keeps-edge}
-use Rattle.up_claims.proofs.Lists.{any_cases, any_map, any_mapped, any_as, all_left, all_right, all_mapped}
+use Rattle.fo_core.proofs.ListFacts.{any_cases, any_map, any_mapped, any_as, all_left, all_right, all_mapped}
 
 -- whether a number is listed
 listed-from : (xs : List ℕ) (k : ℕ) → list_any (λ m. m == k) xs ≡ true → Contains xs k

@@ -5,10 +5,10 @@ use Rattle.std.specs.List.{All, Any}
 use Rattle.std.proofs.lemmas.List.Elements.{All-nil, All-cons, All-head, All-append}
 use Rattle.fo_core.specs.declared.order.Purpose.TheVariants.{Infer}
 use Rattle.fo_core.specs.declared.query.Query.{Query}
-use Rattle.fo_core.specs.declared.syntax.Sig.{Sig}
-use Rattle.fo_core.specs.declared.syntax.System.{System}
-use Rattle.fo_core.specs.declared.syntax.Formula.{Formula}
-use Rattle.fo_core.specs.declared.syntax.Formula.TheVariants as F
+use Rattle.fo_core.specs.declared.signature.Sig.{Sig}
+use Rattle.fo_core.specs.declared.system.System.{System}
+use Rattle.fo_core.specs.declared.formula.Formula.{Formula}
+use Rattle.fo_core.specs.declared.formula.Formula.TheVariants as F
 use Rattle.fo_core.specs.declared.world.World.{World}
 use Rattle.fo_core.specs.Queries.{IsQuery, MeetsQuery}
 use Rattle.fo_core.specs.Runs.{IsState, IsInitial, IsStep, Violates}
@@ -26,7 +26,8 @@ use Rattle.up_claims.specs.Breaking.{IsViolatingRunOf}
 use Rattle.up_claims.specs.Claims.{at_copy, denied, states_below, steps_below, unroll_claims}
 use Rattle.up_claims.specs.Transitions.{any_transition}
 use Rattle.up_claims.proofs.CopyLemmas.{rises-fewer, at-from, at-to, at-sorted, at-edge, moved-from, moved-to, moved-sorted, denied-from, denied-to, denied-sorted, denied-edge, can-shift}
-use Rattle.up_claims.proofs.Lists.{EdgeOf, any_one, any_append, any_none, all_left, all_right, some_fails, not_all}
+use Rattle.up_claims.proofs.EdgesOf.{EdgeOf}
+use Rattle.fo_core.proofs.ListFacts.{any_one, any_append, any_none, all_left, all_right, some_fails, not_all}
 use Rattle.up_claims.proofs.TransitionLemmas.{any-from, any-to, any-sorted, any-edge}
 
 module _ (sys : System) where

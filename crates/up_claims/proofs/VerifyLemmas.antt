@@ -5,9 +5,9 @@ use Rattle.std.specs.List.{All, Any}
 use Rattle.std.proofs.lemmas.List.Elements.{All-nil, All-cons, All-head, All-tail, All-append}
 use Rattle.fo_core.specs.declared.order.Purpose.TheVariants.{Verify}
 use Rattle.fo_core.specs.declared.query.Query.{Query}
-use Rattle.fo_core.specs.declared.syntax.System.{System}
-use Rattle.fo_core.specs.declared.syntax.Formula.{Formula}
-use Rattle.fo_core.specs.declared.syntax.Formula.TheVariants as F
+use Rattle.fo_core.specs.declared.system.System.{System}
+use Rattle.fo_core.specs.declared.formula.Formula.{Formula}
+use Rattle.fo_core.specs.declared.formula.Formula.TheVariants as F
 use Rattle.fo_core.specs.declared.world.World.{World}
 use Rattle.fo_core.specs.Queries.{IsQuery, MeetsQuery}
 use Rattle.fo_core.specs.SortGraph.{FormulaEdge, FormulasEdge, FunctionEdge, VerifyEdge, SortEdge, ClaimsEdge, Rises}
@@ -18,7 +18,8 @@ use Rattle.up_claims.specs.Breaking.{BreaksAtInit, BreaksByStep}
 use Rattle.up_claims.specs.Claims.{no_step, step_at, properties, property_at, at_copy, denied, init_claims, step_claims}
 use Rattle.up_claims.specs.Transitions.{transition_claim}
 use Rattle.up_claims.proofs.CopyLemmas.{rises-fewer, at-from, at-to, at-sorted, at-edge, denied-from, denied-to, denied-sorted, denied-edge}
-use Rattle.up_claims.proofs.Lists.{EdgeOf, any_cases, any_one, any_append, all_left, all_right}
+use Rattle.up_claims.proofs.EdgesOf.{EdgeOf}
+use Rattle.fo_core.proofs.ListFacts.{any_cases, any_one, any_append, all_left, all_right}
 use Rattle.up_claims.proofs.TransitionLemmas.{leads-from, leads-to, claim-sorted, claim-edge}
 
 module _ (sys : System) (is : IsSystem sys) (p : ℕ) (has : p < length sys.safeties + length sys.invariants) where

@@ -1,7 +1,7 @@
 -- Worlds that show that a property fails.
 use Rattle.std.specs.Prelude.{◌≡◌, ℕ, ◌+◌, [], Option, None, Some, length}
 use Rattle.std.specs.List.{All}
-use Rattle.fo_core.specs.declared.syntax.System.{System}
+use Rattle.fo_core.specs.declared.system.System.{System}
 use Rattle.fo_core.specs.declared.world.World.{World}
 use Rattle.fo_core.specs.Runs.{IsState, IsInitial, LeadsOn, IsViolatingRun}
 use Rattle.fo_core.specs.Tables.{Fits}

@@ -1,8 +1,8 @@
 -- Properties that hold at the start and that steps keep.
 use Rattle.std.specs.Prelude.{ℕ, ◌+◌, ◌<◌, List, [], length}
 use Rattle.std.specs.List.{All}
-use Rattle.fo_core.specs.declared.syntax.System.{System}
-use Rattle.fo_core.specs.declared.syntax.Formula.{Formula}
+use Rattle.fo_core.specs.declared.system.System.{System}
+use Rattle.fo_core.specs.declared.formula.Formula.{Formula}
 use Rattle.fo_core.specs.declared.world.World.{World}
 use Rattle.fo_core.specs.Runs.{IsInitial, IsStep}
 use Rattle.fo_core.specs.Tables.{Fits}

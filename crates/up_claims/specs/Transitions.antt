@@ -1,30 +1,16 @@
 -- Formulas which say that a transition leads from copy 0 to copy 1.
 use Rattle.std.specs.Prelude.{ℕ, zero, suc, ◌+◌, Bool, cond, not, ◌&&◌, ◌==◌, List, [], ◌∷◌, ◌++◌, length, map}
 use Rattle.std.specs.List.{list_any}
-use Rattle.fo_core.specs.declared.syntax.Sig.{Sig}
-use Rattle.fo_core.specs.declared.syntax.Step.{Step}
-use Rattle.fo_core.specs.declared.syntax.Symbol.{Symbol}
-use Rattle.fo_core.specs.declared.syntax.System.{System}
-use Rattle.fo_core.specs.declared.syntax.Term.{Term, Var}
-use Rattle.fo_core.specs.declared.syntax.Term.TheVariants as T
-use Rattle.fo_core.specs.declared.syntax.Formula.{Formula, Rel, Eq}
-use Rattle.fo_core.specs.declared.syntax.Formula.TheVariants as F
+use Rattle.fo_core.specs.declared.signature.Sig.{Sig}
+use Rattle.fo_core.specs.declared.system.Step.{Step}
+use Rattle.fo_core.specs.declared.signature.Symbol.{Symbol}
+use Rattle.fo_core.specs.declared.system.System.{System}
+use Rattle.fo_core.specs.declared.term.Term.{Term}
+use Rattle.fo_core.specs.declared.term.Term.TheVariants as T
+use Rattle.fo_core.specs.declared.formula.Formula.{Formula, Rel, Eq}
+use Rattle.fo_core.specs.declared.formula.Formula.TheVariants as F
+use Rattle.fo_core.specs.Over.{all_over, some_over, variables}
 use Rattle.fo_core.specs.Tables.{symbol_at}
-
--- the formula under universals of these sorts, the first of them outermost
-abbrev pub all_over : List ℕ → Formula → Formula
-all_over [] f = f
-all_over (s ∷ ss) f = F.All s (all_over ss f)
-
--- the formula under existentials of these sorts, the first of them outermost
-abbrev pub some_over : List ℕ → Formula → Formula
-some_over [] f = f
-some_over (s ∷ ss) f = F.Ex s (some_over ss f)
-
--- so many variables, numbered from n on
-abbrev pub variables : ℕ → ℕ → List Term
-variables n zero = []
-variables n (suc count) = variables n count ++ Var (n + count) ∷ []
 
 -- for these arguments relation k is true in copy 1 exactly where it is in copy 0
 abbrev pub same_truth : ℕ → List Term → Formula

@@ -1,7 +1,7 @@
 -- The queries that verify a system, in their order: the verification conditions.
 use Rattle.std.specs.Prelude.{ℕ, zero, suc, List, [], ◌∷◌, ◌++◌, Option, None, Some, length}
 use Rattle.fo_core.specs.declared.query.Query.{Query}
-use Rattle.fo_core.specs.declared.syntax.System.{System}
+use Rattle.fo_core.specs.declared.system.System.{System}
 use Rattle.fo_core.specs.declared.world.World.{World}
 use Rattle.fo_core.specs.QueryWeight.{query_weight}
 use Rattle.up_claims.specs.Breaking.{Breaks}

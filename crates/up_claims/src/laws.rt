@@ -2,7 +2,7 @@
 
 ghost use Rattle.std.specs.Prelude.{◌↔◌};
 ghost use Rattle.std.specs.List.{All};
-ghost use Rattle.fo_core.specs.declared.syntax.System.{System};
+ghost use Rattle.fo_core.specs.declared.system.System.{System};
 ghost use Rattle.fo_core.specs.Sorted.{IsSystem};
 ghost use Rattle.up_claims.specs.Claims.{properties};
 ghost use Rattle.up_claims.specs.Inductive.{IsInductive, NothingBreaks};

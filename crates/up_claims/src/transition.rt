@@ -1,47 +1,14 @@
 ghost use Rattle.std.specs.Prelude.{◌≡◌, ◌<◌, ◌-◌, ◌^◌, [], ◌∷◌, ◌++◌, IfOk, OnOk, length};
-ghost use Rattle.fo_core.specs.declared.syntax.Formula.{Rel};
-ghost use Rattle.fo_core.specs.declared.syntax.Formula.TheVariants as F;
-ghost use Rattle.fo_core.specs.declared.syntax.Term.TheVariants.{App};
-ghost use Rattle.up_claims.specs.Transitions.{all_over as all_over_of, some_over as some_over_of, variables as variables_of, same_truth as same_truth_of, same_value as same_value_of, same as same_of, keeps as keeps_of, kept_below, is_kept as is_kept_of, transition_claim as transition_claim_of, any_transition as any_transition_of};
+ghost use Rattle.fo_core.specs.declared.formula.Formula.{Rel};
+ghost use Rattle.fo_core.specs.declared.formula.Formula.TheVariants as F;
+ghost use Rattle.fo_core.specs.declared.term.Term.TheVariants.{App};
+ghost use Rattle.up_claims.specs.Transitions.{same_truth as same_truth_of, same_value as same_value_of, same as same_of, keeps as keeps_of, kept_below, is_kept as is_kept_of, transition_claim as transition_claim_of, any_transition as any_transition_of};
+ghost use Rattle.fo_core.specs.Over.{all_over as all_over_of, some_over as some_over_of, variables as variables_of};
 
-use fo_core::{Boxed, Formula, Seq, Sig, Step, Symbol, System, Term};
+use fo_core::{
+    Boxed, Formula, Seq, Sig, Step, Symbol, System, Term, all_over, some_over, variables,
+};
 use std::alloc::{AllocError, Global};
-
-/// The formula under universals of these sorts, the first of them outermost.
-fn all_over(alloc: Global, sorts: &[u32], body: Formula) -> Result<Formula, AllocError>
-    ensures { IfOk result (λ f. f ≡ all_over_of sorts.now body) }
-{
-    let mut f = body;
-    'each: for i in (0..sorts.len()).rev() {
-        f = Formula::All(sorts[i], Boxed::new(alloc, f)?);
-    }
-    Ok(f)
-}
-
-/// The formula under existentials of these sorts, the first of them outermost.
-fn some_over(alloc: Global, sorts: &[u32], body: Formula) -> Result<Formula, AllocError>
-    ensures { IfOk result (λ f. f ≡ some_over_of sorts.now body) }
-{
-    let mut f = body;
-    'each: for i in (0..sorts.len()).rev() {
-        f = Formula::Ex(sorts[i], Boxed::new(alloc, f)?);
-    }
-    Ok(f)
-}
-
-/// So many variables from this number on. Where a number passes 32 bits, memory is wanting.
-fn variables(alloc: Global, from: usize, count: usize) -> Result<Seq<Term>, AllocError>
-    ensures { IfOk result (λ ts. ts ≡ variables_of from count) }
-{
-    let mut terms = Seq::new(alloc);
-    'each: for i in 0..count {
-        if from > u32::MAX as usize || i > u32::MAX as usize - from {
-            return Err(AllocError);
-        }
-        terms.push(Term::Var((from + i) as u32))?;
-    }
-    Ok(terms)
-}
 
 fn not(alloc: Global, f: Formula) -> Result<Formula, AllocError>
     ensures { IfOk result (λ g. g ≡ F.Not f) }

@@ -1,6 +1,6 @@
 ghost use Rattle.std.specs.Prelude.{◌≡◌, ◌↔◌, ◌+◌, ◌-◌, ◌^◌, ◌<◌, ◌≤◌, ◌∷◌, ◌++◌, [], ℕ, List, length, IfOk, OnOk};
 ghost use Rattle.fo_core.specs.declared.order.Purpose.TheVariants.{Infer};
-ghost use Rattle.fo_core.specs.declared.syntax.Formula.TheVariants as F;
+ghost use Rattle.fo_core.specs.declared.formula.Formula.TheVariants as F;
 ghost use Rattle.fo_core.specs.declared.world.World.{World};
 ghost use Rattle.fo_core.specs.Queries.{IsQuery, MeetsQuery};
 ghost use Rattle.fo_core.specs.Shift.{CanShift, shift};

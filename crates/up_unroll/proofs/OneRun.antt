@@ -3,19 +3,19 @@ use Rattle.std.proofs.Common.{◌≡◌, ℕ, ◌⊎◌, inl, inr, ◌+◌, ◌<
 use Rattle.std.specs.List.{All, range_with_len}
 use Rattle.std.proofs.lemmas.Bool.{cases_order}
 use Rattle.fo_core.specs.declared.query.Query.{Query}
-use Rattle.fo_core.specs.declared.syntax.System.{System}
+use Rattle.fo_core.specs.declared.system.System.{System}
 use Rattle.fo_core.specs.declared.world.World.{World}
-use Rattle.fo_core.specs.Finds.{HasNoWorld}
+use Rattle.fo_core.specs.Finds.{IsLight, HasNoWorld}
 use Rattle.fo_core.specs.Sorted.{IsSystem}
-use Rattle.fo_least.specs.Asked.{least_queries}
-use Rattle.fo_least.specs.Least.{IsLeast}
+use Rattle.fo_core.specs.Asked.{least_queries}
+use Rattle.fo_core.specs.Least.{IsLeast}
 use Rattle.fo_least.proofs.OneLeast.{one_least}
-use Rattle.fo_least.proofs.ListFacts.{all_map, range_all}
+use Rattle.fo_core.proofs.ListFacts.{all_map, range_all}
 use Rattle.fo_min.specs.declared.found.Excess.{Excess}
-use Rattle.fo_min.specs.Found.{IsLight, IsExcess}
+use Rattle.fo_min.specs.Found.{IsExcess}
 use Rattle.fo_min.proofs.OneAnswer.{one-excess, excess-none, excess-least}
 use Rattle.up_claims.specs.declared.kind.Kind.{Kind}
-use Rattle.up_claims.proofs.Lists.{all_left, all_right}
+use Rattle.fo_core.proofs.ListFacts.{all_left, all_right}
 use Rattle.up_claims.proofs.UnrollLemmas.{meaning-unroll, query-unroll}
 use Rattle.up_unroll.specs.declared.unrolling.Unrolled.{Unrolled}
 use Rattle.up_unroll.specs.declared.unrolling.Unrolled.TheVariants.{Run, NoRun, Over}

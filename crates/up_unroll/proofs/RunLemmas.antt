@@ -5,17 +5,18 @@ use Rattle.std.proofs.Common.{subst, sym, ap, ◌∙◌, below_more, zero-add}
 use Rattle.std.proofs.lemmas.List.Elements.{All-append, All-push}
 use Rattle.std.proofs.lemmas.List.FromFn.{map-range_with_len_more}
 use Rattle.fo_core.specs.declared.query.Query.{Query}
-use Rattle.fo_core.specs.declared.syntax.Formula.{Formula}
-use Rattle.fo_core.specs.declared.syntax.System.{System}
+use Rattle.fo_core.specs.declared.formula.Formula.{Formula}
+use Rattle.fo_core.specs.declared.system.System.{System}
 use Rattle.fo_core.specs.declared.world.World.{World}
 use Rattle.fo_core.specs.Queries.{MeetsQuery}
-use Rattle.fo_least.specs.Asked.{least_queries}
+use Rattle.fo_core.specs.Asked.{least_queries}
 use Rattle.fo_min.specs.declared.found.Least.TheVariants.{Model, Nothing}
-use Rattle.fo_min.specs.Found.{IsLight, IsFoundLeast}
+use Rattle.fo_min.specs.Found.{IsFoundLeast}
 use Rattle.up_claims.specs.Breaking.{IsViolatingRunOf}
 use Rattle.up_claims.specs.Claims.{unroll_claims}
 use Rattle.up_unroll.specs.declared.unrolling.Unrolled.TheVariants.{Run}
 use Rattle.up_unroll.specs.Unrolling.{run_query, run_queries, HasNoRunOf, IsLeastRun, IsUnrolled}
+use Rattle.fo_core.specs.Finds.{IsLight}
 
 same-query : (copies : ℕ) (claims : List Formula) (q : Query) → q.copies ≡ copies → q.claims ≡ claims → q ≡ record { copies = copies; claims = claims }
 same-query copies claims q c d =

@@ -2,18 +2,19 @@
 use Rattle.std.specs.Prelude.{◌≡◌, ℕ, ◌+◌, ◌<◌, ◌≤◌, List, ◌++◌, map}
 use Rattle.std.specs.List.{All, range_with_len}
 use Rattle.fo_core.specs.declared.query.Query.{Query}
-use Rattle.fo_core.specs.declared.syntax.System.{System}
+use Rattle.fo_core.specs.declared.system.System.{System}
 use Rattle.fo_core.specs.declared.world.World.{World}
 use Rattle.fo_core.specs.SortGraph.{ComesFirst}
-use Rattle.fo_least.specs.Asked.{least_queries}
-use Rattle.fo_least.specs.Least.{numbers_of}
+use Rattle.fo_core.specs.Asked.{least_queries}
+use Rattle.fo_core.specs.Least.{numbers_of}
 use Rattle.fo_min.specs.declared.found.Excess.{Excess}
-use Rattle.fo_min.specs.Found.{IsLight, IsExcess}
+use Rattle.fo_min.specs.Found.{IsExcess}
 use Rattle.up_claims.specs.declared.kind.Kind.TheVariants.{Unroll}
 use Rattle.up_claims.specs.Breaking.{IsViolatingRunOf}
 use Rattle.up_claims.specs.Claims.{unroll_claims}
 use Rattle.up_unroll.specs.declared.unrolling.Unrolled.{Unrolled}
 use Rattle.up_unroll.specs.declared.unrolling.Unrolled.TheVariants.{Run, NoRun, Over}
+use Rattle.fo_core.specs.Finds.{IsLight}
 
 -- the query of a violating run of k steps
 abbrev pub run_query : System → ℕ → Query

@@ -1,7 +1,7 @@
 //! A law about the definitions, the contract of a function that does nothing.
 
 ghost use Rattle.std.specs.Prelude.{◌≡◌, ℕ};
-ghost use Rattle.fo_core.specs.declared.syntax.System.{System};
+ghost use Rattle.fo_core.specs.declared.system.System.{System};
 ghost use Rattle.fo_core.specs.Sorted.{IsSystem};
 ghost use Rattle.up_unroll.specs.declared.unrolling.Unrolled.{Unrolled};
 ghost use Rattle.up_unroll.specs.Unrolling.{IsUnrolled};

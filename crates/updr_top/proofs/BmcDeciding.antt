@@ -2,7 +2,7 @@
 use Rattle.std.proofs.Common.{◌≡◌, ◌⊎◌, ◌≤◌, ◌∙◌, ℕ, List, subst, inl, inr, arith}
 use Rattle.fo_core.specs.declared.names.Names.{Names}
 use Rattle.fo_core.specs.declared.order.Purpose.TheVariants as purpose
-use Rattle.fo_core.specs.declared.syntax.System.{System}
+use Rattle.fo_core.specs.declared.system.System.{System}
 use Rattle.fo_core.specs.Sorted.{IsSystem}
 use Rattle.fo_core.specs.SortGraph.{IsStratified}
 use Rattle.updr_top.specs.Ends.{End}

@@ -3,7 +3,7 @@ use Rattle.std.proofs.Common.{◌≡◌, ◌⊎◌, ◌≤◌, ◌++◌, ℕ, Li
 use Rattle.std.specs.Prelude.{codes}
 use Rattle.std.specs.List.{Contains}
 use Rattle.fo_core.specs.declared.names.Names.{Names}
-use Rattle.fo_core.specs.declared.syntax.System.{System}
+use Rattle.fo_core.specs.declared.system.System.{System}
 use Rattle.pv_base.specs.Reading.{IsContent}
 use Rattle.pyv_lex.specs.declared.token.LexFault.{LexFault}
 use Rattle.pyv_lex.specs.declared.token.LexFault.TheVariants as lex

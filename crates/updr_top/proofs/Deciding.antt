@@ -1,7 +1,7 @@
 -- What a check comes to whose files were read.
 use Rattle.std.proofs.Common.{◌≡◌, ◌⊎◌, ◌↔◌, ◌∙◌, ℕ, List, sym, subst, inl, inr, refl, arith}
 use Rattle.fo_core.specs.declared.names.Names.{Names}
-use Rattle.fo_core.specs.declared.syntax.System.{System}
+use Rattle.fo_core.specs.declared.system.System.{System}
 use Rattle.fo_core.specs.Runs.{IsViolatingRun}
 use Rattle.up_cert.specs.Spots.{IsFirstSpot}
 use Rattle.up_cert.specs.declared.spot.Spot.{Spot}

@@ -1,7 +1,7 @@
 -- A text has no tokens, no tree, no meaning, or means one system; and one of these alone.
 use Rattle.std.proofs.Common.{◌≡◌, ◌⊎◌, ℕ, List, subst, inl, inr}
 use Rattle.fo_core.specs.declared.names.Names.{Names}
-use Rattle.fo_core.specs.declared.syntax.System.{System}
+use Rattle.fo_core.specs.declared.system.System.{System}
 use Rattle.pyv_lex.specs.declared.token.Token.{Token}
 use Rattle.pyv_grammar.specs.declared.tree.Decl.{Decl}
 use Rattle.pyv_grammar.specs.declared.tree.Model.{Model}

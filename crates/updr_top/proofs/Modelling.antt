@@ -2,7 +2,7 @@
 use Rattle.std.proofs.Common.{◌<◌, ◌≤◌, ◌^◌, ℕ, List, Result, Ok, Err, length, sym, arith}
 use Rattle.std.specs.Str.{IsUtf8}
 use Rattle.fo_core.specs.declared.names.Names.{Names}
-use Rattle.fo_core.specs.declared.syntax.System.{System}
+use Rattle.fo_core.specs.declared.system.System.{System}
 use Rattle.pyv_lex.specs.Cutting.{AreTokens}
 use Rattle.pyv_lex.specs.Fault.{IsLexFault, OkUnlessMemory}
 use Rattle.pyv_lex.specs.declared.token.Token.{Token}

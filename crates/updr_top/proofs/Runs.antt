@@ -5,21 +5,21 @@ use Rattle.std.proofs.lemmas.Bool.{cases_lt, cases_order}
 use Rattle.std.proofs.lemmas.List.Elements.{All-head}
 use Rattle.std.proofs.lemmas.List.FromFn.{map-range_with_len_more}
 use Rattle.fo_core.specs.declared.query.Query.{Query}
-use Rattle.fo_core.specs.declared.syntax.Sig.{Sig}
-use Rattle.fo_core.specs.declared.syntax.System.{System}
+use Rattle.fo_core.specs.declared.signature.Sig.{Sig}
+use Rattle.fo_core.specs.declared.system.System.{System}
 use Rattle.fo_core.specs.declared.world.World.{World}
-use Rattle.fo_core.specs.Finds.{HasNoWorld}
+use Rattle.fo_core.specs.Finds.{HasNoWorld, IsLight}
 use Rattle.fo_core.specs.Queries.{IsQuery}
 use Rattle.fo_core.specs.QueryWeight.{query_weight}
 use Rattle.fo_core.specs.Sorted.{IsSig, IsSystem}
-use Rattle.fo_least.specs.Least.{IsLeast}
+use Rattle.fo_core.specs.Least.{IsLeast}
 use Rattle.fo_least.proofs.Determined.{asked_leads}
-use Rattle.up_claims.proofs.Lists.{all_left, all_right}
+use Rattle.fo_core.proofs.ListFacts.{all_left, all_right}
 use Rattle.up_claims.proofs.UnrollLemmas.{meaning-unroll, query-unroll}
 use Rattle.updr_top.proofs.Cases.{middle}
-use Rattle.fo_least.specs.Asked.{IsAsked, at_first, for_size, for_value, least_queries}
+use Rattle.fo_core.specs.Asked.{IsAsked, at_first, for_size, for_value, least_queries}
 use Rattle.fo_min.specs.declared.found.Excess.{Excess}
-use Rattle.fo_min.specs.Found.{IsLight, IsExcess}
+use Rattle.fo_min.specs.Found.{IsExcess}
 use Rattle.up_unroll.specs.Unrolling.{run_query, run_queries, HasNoRunOf, IsUnrollExcess}
 use Rattle.updr_top.specs.Unrolling.{FindsRun, FindsNoRun}
 

@@ -4,7 +4,7 @@ use Rattle.std.specs.Prelude.{codes}
 use Rattle.fo_core.specs.declared.names.Names.{Names}
 use Rattle.fo_core.specs.declared.order.Purpose.{Purpose}
 use Rattle.fo_core.specs.declared.order.Purpose.TheVariants as purpose
-use Rattle.fo_core.specs.declared.syntax.System.{System}
+use Rattle.fo_core.specs.declared.system.System.{System}
 use Rattle.pv_base.specs.Counts.{Rose}
 use Rattle.pv_base.specs.Written.{Appends}
 use Rattle.pv_base.specs.Reading.{IsContent, limit}

@@ -4,7 +4,7 @@ use Rattle.std.proofs.lemmas.List.{length-map}
 use Rattle.fo_core.specs.declared.names.Names.{Names}
 use Rattle.fo_core.specs.declared.order.Purpose.{Purpose}
 use Rattle.fo_core.specs.declared.order.Purpose.TheVariants as purpose
-use Rattle.fo_core.specs.declared.syntax.System.{System}
+use Rattle.fo_core.specs.declared.system.System.{System}
 use Rattle.fo_core.specs.Sorted.{IsSystem}
 use Rattle.fo_core.specs.SortGraph.{IsStratified}
 use Rattle.pyv_meaning.specs.Items.{items_of, item_of}

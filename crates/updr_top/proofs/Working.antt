@@ -3,7 +3,7 @@ use Rattle.std.proofs.Common.{◌≡◌, ◌⊎◌, ◌<◌, ◌++◌, ℕ, List
 use Rattle.std.specs.Prelude.{codes}
 use Rattle.fo_core.specs.declared.names.Names.{Names}
 use Rattle.fo_core.specs.declared.order.Purpose.{Purpose}
-use Rattle.fo_core.specs.declared.syntax.System.{System}
+use Rattle.fo_core.specs.declared.system.System.{System}
 use Rattle.updr_top.specs.Ends.{End, IsProper}
 use Rattle.updr_top.specs.Outside.{Outside}
 use Rattle.updr_top.specs.Course.{modelling, stratifying, working}

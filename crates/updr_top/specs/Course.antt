@@ -3,7 +3,7 @@ use Rattle.std.specs.Prelude.{◌⊎◌, ℕ, List}
 use Rattle.fo_core.specs.declared.names.Names.{Names}
 use Rattle.fo_core.specs.declared.order.Purpose.{Purpose}
 use Rattle.fo_core.specs.declared.order.Purpose.TheVariants as purpose
-use Rattle.fo_core.specs.declared.syntax.System.{System}
+use Rattle.fo_core.specs.declared.system.System.{System}
 use Rattle.fo_core.specs.SortGraph.{IsStratified}
 use Rattle.updr_top.specs.Ends.{End, usage}
 use Rattle.updr_top.specs.Outside.{Outside, reading}

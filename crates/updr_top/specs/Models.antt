@@ -2,7 +2,7 @@
 use Rattle.std.specs.Prelude.{◌≡◌, ◌⊎◌, ℕ, ◌-◌, ◌≤◌, List, ◌++◌, take, drop, length, codes}
 use Rattle.std.specs.Str.{IsUtf8}
 use Rattle.fo_core.specs.declared.names.Names.{Names}
-use Rattle.fo_core.specs.declared.syntax.System.{System}
+use Rattle.fo_core.specs.declared.system.System.{System}
 use Rattle.pyv_lex.specs.Cutting.{AreTokens}
 use Rattle.pyv_lex.specs.Fault.{IsLexFault}
 use Rattle.pyv_lex.specs.declared.token.Token.{Token}

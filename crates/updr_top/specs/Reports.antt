@@ -1,6 +1,6 @@
 -- The text of a report of a violating run.
 use Rattle.std.specs.Prelude.{◌≡◌, ℕ, ◌-◌, ◌^◌, ◌<◌, ◌≤◌, List, [], ◌∷◌, ◌++◌, length, codes, Result, Ok, Err, ⊤}
-use Rattle.fo_core.specs.declared.syntax.Sig.{Sig}
+use Rattle.fo_core.specs.declared.signature.Sig.{Sig}
 use Rattle.fo_core.specs.declared.names.Names.{Names}
 use Rattle.fo_text.specs.Texts.{HasText, text_of, after_space}
 use Rattle.updr_top.specs.declared.report.Numbers.{Numbers}

@@ -2,7 +2,7 @@
 use Rattle.std.specs.Prelude.{◌≡◌, ◌⊎◌, ◌↔◌, ◌<◌, ◌≤◌, ℕ, List, [], ◌∷◌, ◌++◌, Some, length, codes, decimal}
 use Rattle.std.specs.List.{Contains}
 use Rattle.fo_core.specs.declared.names.Names.{Names}
-use Rattle.fo_core.specs.declared.syntax.System.{System}
+use Rattle.fo_core.specs.declared.system.System.{System}
 use Rattle.fo_core.specs.Runs.{IsViolatingRun}
 use Rattle.pv_base.specs.Reading.{IsContent, limit}
 use Rattle.pv_base.specs.Counts.{Rose}

@@ -2,11 +2,11 @@
 use Rattle.std.specs.Prelude.{◌≡◌, ◌≤◌, ◌+◌, ℕ, List, ◌++◌, decimal, codes}
 use Rattle.std.specs.List.{All}
 use Rattle.fo_core.specs.declared.names.Names.{Names}
-use Rattle.fo_core.specs.declared.syntax.System.{System}
+use Rattle.fo_core.specs.declared.system.System.{System}
 use Rattle.fo_core.specs.declared.world.World.{World}
-use Rattle.fo_least.specs.Asked.{least_queries}
+use Rattle.fo_core.specs.Asked.{least_queries}
 use Rattle.fo_min.specs.declared.found.Excess.{Excess}
-use Rattle.fo_min.specs.Found.{IsLight}
+use Rattle.fo_core.specs.Finds.{IsLight}
 use Rattle.up_claims.specs.declared.kind.Kind.{Kind}
 use Rattle.up_claims.specs.declared.kind.Kind.TheVariants as kind
 use Rattle.up_unroll.specs.Unrolling.{run_query, run_queries, HasNoRunOf, IsLeastRun, IsUnrollExcess}

@@ -1,5 +1,5 @@
 use Rattle.std.proofs.Common.{◌≡◌, ◌∙◌, sym, ap, arith}
-use Rattle.fo_core.specs.declared.syntax.Formula.TheVariants as F
+use Rattle.fo_core.specs.declared.formula.Formula.TheVariants as F
 use Rattle.fo_core.proofs.Answered.{false_from, never}
 use Rattle.fo_core.proofs.Rows.{binders-All, binders-Ex}
 use Rattle.fo_core.proofs.SortedLemmas.{depth-Not, depth-And-false, depth-And-true, depth-Or-false, depth-Or-true, depth-All, depth-Ex}

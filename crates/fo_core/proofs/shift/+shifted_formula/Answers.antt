@@ -1,7 +1,7 @@
 use Rattle.std.proofs.Common.{◌∙◌, map, ap, sym, subst, rules}
 use Rattle.std.proofs.lemmas.List.{take_all}
-use Rattle.fo_core.specs.declared.syntax.Formula.TheFolds.{the_lemmas}
-use Rattle.fo_core.specs.declared.syntax.Formula.TheVariants as F
+use Rattle.fo_core.specs.declared.formula.Formula.TheFolds.{the_lemmas}
+use Rattle.fo_core.specs.declared.formula.Formula.TheVariants as F
 use Rattle.fo_core.specs.Shift.{shift, CanShift}
 use Rattle.fo_core.proofs.ShiftRows.{shift-Not, shift-And, shift-Or, shift-All, shift-Ex, can-Rel, can-Not, can-And, can-Or, can-All, can-Ex}
 use Rattle.fo_core.proofs.shift.+shifted_formula.Goals as goal

@@ -1,7 +1,7 @@
 use Rattle.std.proofs.Common.{◌∙◌, map, ap, sym, subst, rules}
 use Rattle.std.proofs.lemmas.List.{take_all}
-use Rattle.fo_core.specs.declared.syntax.Term.TheFolds.{the_lemmas}
-use Rattle.fo_core.specs.declared.syntax.Term.TheVariants.{App}
+use Rattle.fo_core.specs.declared.term.Term.TheFolds.{the_lemmas}
+use Rattle.fo_core.specs.declared.term.Term.TheVariants.{App}
 use Rattle.fo_core.specs.Shift.{moved, shift_term, CanShiftTerm}
 use Rattle.fo_core.proofs.ShiftRows.{shift-App, can-App}
 use Rattle.fo_core.proofs.shift.+shifted_term.Goals as goal

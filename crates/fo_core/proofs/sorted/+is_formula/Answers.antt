@@ -1,5 +1,5 @@
 use Rattle.std.proofs.Common.{◌∙◌, sym, ap}
-use Rattle.fo_core.specs.declared.syntax.Formula.TheVariants as F
+use Rattle.fo_core.specs.declared.formula.Formula.TheVariants as F
 use Rattle.fo_core.specs.Tables.{no_symbol}
 use Rattle.fo_core.proofs.Answered.{false_from, answered}
 use Rattle.fo_core.proofs.SortedLemmas.{Not-either, And-false, And-true, Or-false, Or-true, All-unknown, Ex-unknown, All-either, Ex-either}

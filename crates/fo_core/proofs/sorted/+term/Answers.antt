@@ -1,6 +1,6 @@
 use Rattle.std.proofs.Common.{◌∙◌, ap, sym, arith}
-use Rattle.fo_core.specs.declared.syntax.Symbol.{Symbol}
-use Rattle.fo_core.specs.declared.syntax.Term.TheVariants.{Var}
+use Rattle.fo_core.specs.declared.signature.Symbol.{Symbol}
+use Rattle.fo_core.specs.declared.term.Term.TheVariants.{Var}
 use Rattle.fo_core.specs.Tables.{no_symbol}
 use Rattle.fo_core.proofs.Answered.{false_from}
 use Rattle.fo_core.proofs.SortedLemmas.{terms-length, terms-false, terms-true, App-either}

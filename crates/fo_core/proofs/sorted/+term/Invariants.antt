@@ -1,5 +1,5 @@
 use Rattle.std.proofs.Common.{ℕ, ◌<◌, get_or}
-use Rattle.fo_core.specs.declared.syntax.Term.{Term}
+use Rattle.fo_core.specs.declared.term.Term.{Term}
 use Rattle.fo_core.specs.Sorted.{IsTerm}
 use Rattle.fo_core.proofs.sorted.+term.Given as goal
 

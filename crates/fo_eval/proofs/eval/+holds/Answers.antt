@@ -1,6 +1,6 @@
 use Rattle.std.proofs.Common.{◌≡◌, ◌∙◌, sym, ap, subst, arith, rules}
-use Rattle.fo_core.specs.declared.syntax.Formula.TheFolds.{the_lemmas}
-use Rattle.fo_core.specs.declared.syntax.Formula.TheVariants as F
+use Rattle.fo_core.specs.declared.formula.Formula.TheFolds.{the_lemmas}
+use Rattle.fo_core.specs.declared.formula.Formula.TheVariants as F
 use Rattle.fo_core.specs.Truth.{Truth}
 use Rattle.fo_eval.specs.Values.{Values}
 use Rattle.fo_eval.specs.Asked.{CanHold}

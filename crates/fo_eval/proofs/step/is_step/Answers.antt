@@ -1,5 +1,5 @@
 use Rattle.std.proofs.Common.{◌≡◌, ◌∙◌, ◌≤◌, ◌<◌, ℕ, List, get_or, length, subst, sym, ap, arith}
-use Rattle.fo_core.specs.declared.syntax.Step.{Step}
+use Rattle.fo_core.specs.declared.system.Step.{Step}
 use Rattle.fo_core.specs.Runs.{LeadsOn}
 use Rattle.fo_eval.specs.Values.{Values}
 use Rattle.fo_eval.specs.Asked.{CanFill}

@@ -1,6 +1,6 @@
 use Rattle.std.proofs.Common.{sym, subst, rules, arith}
-use Rattle.fo_core.specs.declared.syntax.Term.TheFolds.{the_lemmas}
-use Rattle.fo_core.specs.declared.syntax.Term.TheVariants.{Var}
+use Rattle.fo_core.specs.declared.term.Term.TheFolds.{the_lemmas}
+use Rattle.fo_core.specs.declared.term.Term.TheVariants.{Var}
 use Rattle.fo_core.specs.Tables.{no_symbol}
 use Rattle.fo_eval.specs.Asked.{Names}
 use Rattle.fo_eval.proofs.TermLemmas.{App-args, App-place, App-value, AllName-length, AllName-at, sort-within, more, fits, done}

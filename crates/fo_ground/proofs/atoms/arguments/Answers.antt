@@ -6,7 +6,8 @@ use Rattle.fo_ground.specs.declared.layout.Layout.{Layout}
 use Rattle.fo_ground.specs.Numbers.{count_of}
 use Rattle.fo_ground.proofs.ArgumentLemmas.{part-positive, quotient-lt, rest-lt, part-is, power-split, next-argument}
 use Rattle.fo_ground.proofs.atoms.arguments.Goals as goal
-use Rattle.fo_terms.specs.Blocks.{raised, tuple_at}
+use Rattle.fo_terms.specs.Blocks.{raised}
+use Rattle.fo_core.specs.Tuples.{tuple_at}
 
 pub nonzero_div-number : goal.nonzero_div-number
 nonzero_div-number c =

@@ -2,7 +2,8 @@ use Rattle.std.proofs.Common.{◌≡◌, ◌++◌, ◌<◌, map, drop}
 use Rattle.fo_core.specs.Weights.{power}
 use Rattle.fo_ground.specs.Numbers.{count_of}
 use Rattle.fo_ground.proofs.atoms.arguments.Given as goal
-use Rattle.fo_terms.specs.Blocks.{raised, tuple_at}
+use Rattle.fo_terms.specs.Blocks.{raised}
+use Rattle.fo_core.specs.Tuples.{tuple_at}
 
 -- the arguments so far, with those that the rest of the number is, are all of them
 abbrev pub invariant-each : goal.invariant-each

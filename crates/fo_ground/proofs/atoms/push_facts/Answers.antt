@@ -2,7 +2,7 @@ use Rattle.std.proofs.Common.{◌≡◌, ◌∙◌, ◌*◌, ◌/◌, ◌++◌, 
 use Rattle.std.specs.List.{range_with_len}
 use Rattle.std.proofs.lemmas.List.Elements.{All-get_or}
 use Rattle.std.proofs.lemmas.List.FromFn.{map-range_with_len_more}
-use Rattle.fo_core.specs.declared.syntax.Symbol.{Symbol}
+use Rattle.fo_core.specs.declared.signature.Symbol.{Symbol}
 use Rattle.fo_core.specs.Sorted.{HasSorts}
 use Rattle.fo_core.specs.Tables.{no_symbol, symbol_at}
 use Rattle.fo_core.specs.Weights.{power}

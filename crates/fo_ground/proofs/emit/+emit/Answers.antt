@@ -1,6 +1,6 @@
 use Rattle.std.proofs.Common.{◌≡◌, ◌∙◌, ◌+◌, [], ◌∷◌, ◌++◌, false, length, length-append, refl, sym, ap, subst, arith, rules}
-use Rattle.fo_core.specs.declared.syntax.Formula.TheFolds.{the_lemmas}
-use Rattle.fo_core.specs.declared.syntax.Formula.TheVariants as F
+use Rattle.fo_core.specs.declared.formula.Formula.TheFolds.{the_lemmas}
+use Rattle.fo_core.specs.declared.formula.Formula.TheVariants as F
 use Rattle.fo_norm.specs.Forms.{IsNormal}
 use Rattle.fo_ground.specs.Emits.{Adds}
 use Rattle.fo_ground.specs.Layout.{IsLiteral, HasInstance, IsMetBy}

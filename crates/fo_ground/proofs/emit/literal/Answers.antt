@@ -1,5 +1,5 @@
 use Rattle.std.proofs.Common.{◌∙◌, sym, ap, subst}
-use Rattle.fo_core.specs.declared.syntax.Formula.TheVariants as F
+use Rattle.fo_core.specs.declared.formula.Formula.TheVariants as F
 use Rattle.fo_ground.specs.Layout.{IsLiteral, HasInstance}
 use Rattle.fo_ground.proofs.AtomLemmas.{instance-Not, literal-Not, is_literal-Not}
 use Rattle.fo_ground.proofs.emit.literal.Goals as goal

@@ -1,6 +1,6 @@
 use Rattle.std.proofs.Common.{◌∙◌, sym, ap, subst, rules, false}
-use Rattle.fo_core.specs.declared.syntax.Term.TheFolds.{the_lemmas}
-use Rattle.fo_core.specs.declared.syntax.Term.TheVariants.{App}
+use Rattle.fo_core.specs.declared.term.Term.TheFolds.{the_lemmas}
+use Rattle.fo_core.specs.declared.term.Term.TheVariants.{App}
 use Rattle.fo_core.specs.Tables.{symbol_at}
 use Rattle.fo_ground.specs.Layout.{slot, HasPlace}
 use Rattle.fo_ground.proofs.PlaceLemmas.{place-App, HasPlace-args, HavePlaces-at, list_places, symbol-App}

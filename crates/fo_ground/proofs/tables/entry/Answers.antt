@@ -1,6 +1,6 @@
 use Rattle.std.proofs.Common.{◌≡◌, ◌∙◌, false, cond, sym, ap, arith, get_or, length}
 use Rattle.std.proofs.lemmas.List.FromFn.{get_or-map-range_with_len, length-map-range_with_len}
-use Rattle.fo_core.specs.declared.syntax.Symbol.{Symbol}
+use Rattle.fo_core.specs.declared.signature.Symbol.{Symbol}
 use Rattle.fo_core.specs.Sorted.{IsSymbol}
 use Rattle.fo_core.specs.Tables.{no_symbol, symbol_at}
 use Rattle.prop_core.specs.Formula.{value_of}

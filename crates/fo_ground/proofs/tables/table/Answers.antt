@@ -3,7 +3,7 @@ use Rattle.std.specs.List.{range_with_len}
 use Rattle.std.specs.Prelude.{slice_index}
 use Rattle.std.proofs.lemmas.List.Elements.{All-get_or}
 use Rattle.std.proofs.lemmas.List.FromFn.{map-range_with_len_more}
-use Rattle.fo_core.specs.declared.syntax.Symbol.{Symbol}
+use Rattle.fo_core.specs.declared.signature.Symbol.{Symbol}
 use Rattle.fo_core.specs.Sorted.{HasSorts}
 use Rattle.fo_core.specs.Tables.{no_symbol, symbol_at, tuples}
 use Rattle.fo_core.specs.Weights.{power}
@@ -13,8 +13,8 @@ use Rattle.fo_ground.specs.Layout.{slot, same_by, fact_by}
 use Rattle.fo_ground.specs.Reading.{count_by, entry_by, value_by, picked}
 use Rattle.fo_ground.proofs.ReadLemmas.{sizes-length, heads-length, one-size, sizes-are, picked-are, heads_at-sorted}
 use Rattle.fo_ground.proofs.tables.table.Goals as goal
-use Rattle.fo_terms.specs.Blocks.{tuple_at}
-use Rattle.fo_terms.proofs.TupleLemmas.{tuple-below}
+use Rattle.fo_core.specs.Tuples.{tuple_at}
+use Rattle.fo_core.proofs.TupleLemmas.{tuple-below}
 
 pub tuples-requires : goal.tuples-requires
 tuples-requires c =

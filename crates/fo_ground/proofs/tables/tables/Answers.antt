@@ -1,6 +1,6 @@
 use Rattle.std.proofs.Common.{◌≡◌, ◌∙◌, ◌+◌, true, false, [], ◌∷◌, ◌++◌, sym, ap, get_or, drop, append_assoc}
 use Rattle.std.specs.Bool.{beq}
-use Rattle.fo_core.specs.declared.syntax.Symbol.{Symbol}
+use Rattle.fo_core.specs.declared.signature.Symbol.{Symbol}
 use Rattle.fo_core.specs.Tables.{no_symbol, is_like}
 use Rattle.prop_core.specs.Formula.{value_of}
 use Rattle.fo_ground.specs.Reading.{table_by, tables_by}

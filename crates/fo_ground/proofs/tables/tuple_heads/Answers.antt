@@ -4,7 +4,7 @@ use Rattle.fo_core.specs.Weights.{power}
 use Rattle.fo_ground.specs.Reading.{picked}
 use Rattle.fo_ground.proofs.ArgumentLemmas.{quotient-lt, rest-lt, part-is, power-step-one, next-pick}
 use Rattle.fo_ground.proofs.tables.tuple_heads.Goals as goal
-use Rattle.fo_terms.specs.Blocks.{tuple_at}
+use Rattle.fo_core.specs.Tuples.{tuple_at}
 
 pub at-requires-in-each : goal.at-requires-in-each
 at-requires-in-each c =

@@ -3,7 +3,7 @@ use Rattle.std.specs.Prelude.{slice_index}
 use Rattle.fo_core.specs.Weights.{power}
 use Rattle.fo_ground.specs.Reading.{picked}
 use Rattle.fo_ground.proofs.tables.tuple_heads.Given as goal
-use Rattle.fo_terms.specs.Blocks.{tuple_at}
+use Rattle.fo_core.specs.Tuples.{tuple_at}
 
 -- the terms so far, with those that the rest of the number is, are all of them
 abbrev pub invariant-each : goal.invariant-each

@@ -1,5 +1,5 @@
 use Rattle.std.proofs.Common.{◌≡◌, ◌++◌, drop}
-use Rattle.fo_least.specs.Trials.{have_values as have_values_of}
+use Rattle.fo_core.specs.Trials.{have_values as have_values_of}
 use Rattle.fo_min.proofs.building.add_values.Given as goal
 
 -- the values before this one are told

@@ -1,8 +1,8 @@
 use Rattle.std.proofs.Common.{◌≡◌, map, sum}
 use Rattle.std.specs.List.{range_with_len}
-use Rattle.fo_core.specs.declared.syntax.Term.{Var}
-use Rattle.fo_core.specs.declared.syntax.Formula.{Eq}
-use Rattle.fo_least.specs.Trials.{element as element_of}
+use Rattle.fo_core.specs.declared.term.Term.{Var}
+use Rattle.fo_core.specs.declared.formula.Formula.{Eq}
+use Rattle.fo_core.specs.Trials.{element as element_of}
 use Rattle.fo_min.proofs.building.cover.Given as goal
 
 -- the elements before this one are told

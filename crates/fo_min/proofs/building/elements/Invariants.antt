@@ -1,5 +1,5 @@
 use Rattle.std.proofs.Common.{◌≡◌, ◌≤◌, ◌++◌, drop, length}
-use Rattle.fo_least.specs.Trials.{elements as elements_of}
+use Rattle.fo_core.specs.Trials.{elements as elements_of}
 use Rattle.fo_min.proofs.building.elements.Given as goal
 
 -- those before this one are named

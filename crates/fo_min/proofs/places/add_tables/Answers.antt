@@ -1,7 +1,7 @@
 use Rattle.std.proofs.Common.{◌≡◌, true, false, ap, sym, ◌∙◌}
 use Rattle.std.specs.Bool.{beq}
 use Rattle.fo_core.specs.Tables.{symbol_at, is_like, no_symbol}
-use Rattle.fo_least.specs.Cells.{cells_in}
+use Rattle.fo_core.specs.Cells.{cells_in}
 use Rattle.fo_min.proofs.ListLemmas.{table-added, table-left}
 use Rattle.fo_min.proofs.places.add_tables.Goals as goal
 use Rattle.fo_min.proofs.places.add_tables.Goals.{then-at-mutable+in_ok-add_table, else-at-mutable}

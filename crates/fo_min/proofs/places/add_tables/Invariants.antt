@@ -1,7 +1,7 @@
 use Rattle.std.proofs.Common.{◌≡◌, ◌++◌}
 use Rattle.std.specs.List.{flat_map, filter, range_with_len}
 use Rattle.fo_core.specs.Tables.{symbol_at, is_like}
-use Rattle.fo_least.specs.Cells.{cells_in}
+use Rattle.fo_core.specs.Cells.{cells_in}
 use Rattle.fo_min.proofs.places.add_tables.Given as goal
 
 -- the symbols before this one are done

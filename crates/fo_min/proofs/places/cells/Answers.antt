@@ -1,6 +1,6 @@
 use Rattle.std.proofs.Common.{true, false}
 use Rattle.std.specs.List.{flat_map}
-use Rattle.fo_least.specs.Cells.{cells_in, numbers_like}
+use Rattle.fo_core.specs.Cells.{cells_in, numbers_like}
 use Rattle.fo_min.proofs.ListLemmas.{copy-added}
 use Rattle.fo_min.proofs.places.cells.Goals as goal
 

@@ -1,5 +1,5 @@
 use Rattle.std.proofs.Common.{◌≡◌}
-use Rattle.fo_least.specs.Cells.{cells as cells_of}
+use Rattle.fo_core.specs.Cells.{cells as cells_of}
 use Rattle.fo_min.proofs.places.cells.Given as goal
 
 -- the copies before this one are done

@@ -2,7 +2,7 @@ use Rattle.std.proofs.Common.{◌++◌, ◌∷◌, [], ℕ, List, ap, sym, subst
 use Rattle.fo_core.specs.declared.query.Query.{Query}
 use Rattle.fo_core.specs.Queries.{IsQuery}
 use Rattle.fo_core.specs.SortGraph.{ClaimsEdge, Rises}
-use Rattle.fo_least.specs.Trials.{trial}
+use Rattle.fo_core.specs.Trials.{trial}
 use Rattle.fo_least.proofs.TrialMeaning.{trial_rises}
 use Rattle.fo_min.proofs.SearchLemmas.{size-is-query}
 use Rattle.fo_min.proofs.search.ask_size.Goals as goal

@@ -2,8 +2,8 @@ use Rattle.std.proofs.Common.{◌<◌, ◌++◌, ◌∷◌, [], List, length, ap
 use Rattle.fo_core.specs.declared.query.Query.{Query}
 use Rattle.fo_core.specs.Queries.{IsQuery}
 use Rattle.fo_core.specs.SortGraph.{ClaimsEdge, Rises}
-use Rattle.fo_least.specs.declared.cell.Cell.{Cell}
-use Rattle.fo_least.specs.Trials.{trial}
+use Rattle.fo_core.specs.declared.cell.Cell.{Cell}
+use Rattle.fo_core.specs.Trials.{trial}
 use Rattle.fo_least.proofs.TrialMeaning.{trial_rises}
 use Rattle.fo_min.proofs.SearchLemmas.{value-is-query}
 use Rattle.fo_min.proofs.search.ask_value.Goals as goal

@@ -1,6 +1,6 @@
 use Rattle.std.proofs.Common.{List, ℕ, refl, sym, subst, ap, length, []}
 use Rattle.fo_core.specs.Queries.{MeetsQuery}
-use Rattle.fo_least.specs.Trials.{trial}
+use Rattle.fo_core.specs.Trials.{trial}
 use Rattle.fo_min.specs.Search.{IsSettled}
 use Rattle.fo_min.proofs.SearchLemmas.{settled-start, world-start}
 use Rattle.fo_min.proofs.search.least_sizes.Goals as goal

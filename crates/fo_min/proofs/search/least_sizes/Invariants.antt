@@ -1,6 +1,6 @@
 use Rattle.std.proofs.Common.{◌≡◌, length, []}
 use Rattle.fo_core.specs.Queries.{MeetsQuery}
-use Rattle.fo_least.specs.Trials.{trial}
+use Rattle.fo_core.specs.Trials.{trial}
 use Rattle.fo_min.specs.Search.{IsSettled}
 use Rattle.fo_min.proofs.search.least_sizes.Given as goal
 

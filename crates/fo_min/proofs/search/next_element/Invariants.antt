@@ -1,9 +1,8 @@
 use Rattle.std.proofs.Common.{◌≡◌, ℕ, ◌<◌, [], ◌∷◌, ◌++◌}
 use Rattle.std.specs.List.{All}
-use Rattle.fo_core.specs.Finds.{HasNoWorld}
-use Rattle.fo_least.specs.Asked.{value_trials}
-use Rattle.fo_least.specs.Trials.{trial}
-use Rattle.fo_min.specs.Found.{IsLight}
+use Rattle.fo_core.specs.Finds.{HasNoWorld, IsLight}
+use Rattle.fo_core.specs.Asked.{value_trials}
+use Rattle.fo_core.specs.Trials.{trial}
 use Rattle.fo_min.proofs.search.next_element.Given as goal
 
 -- no world has a value that was tried

@@ -1,6 +1,6 @@
 use Rattle.std.proofs.Common.{ℕ, ◌+◌, ◌<◌, ◌++◌, ◌∷◌, [], ◌∙◌, below_more, arith}
 use Rattle.fo_core.specs.Finds.{HasNoWorld}
-use Rattle.fo_least.specs.Trials.{trial}
+use Rattle.fo_core.specs.Trials.{trial}
 use Rattle.fo_min.proofs.SearchLemmas.{answer-met, answer-none, answer-over, size-found, size-excess, size-lights, size-bound}
 use Rattle.fo_min.proofs.search.next_size.Goals as goal
 

@@ -1,9 +1,8 @@
 use Rattle.std.proofs.Common.{◌≡◌, ℕ, ◌+◌, ◌<◌, [], ◌∷◌, ◌++◌}
 use Rattle.std.specs.List.{All}
-use Rattle.fo_core.specs.Finds.{HasNoWorld}
-use Rattle.fo_least.specs.Asked.{size_trials}
-use Rattle.fo_least.specs.Trials.{trial}
-use Rattle.fo_min.specs.Found.{IsLight}
+use Rattle.fo_core.specs.Finds.{HasNoWorld, IsLight}
+use Rattle.fo_core.specs.Asked.{size_trials}
+use Rattle.fo_core.specs.Trials.{trial}
 use Rattle.fo_min.proofs.search.next_size.Given as goal
 
 -- no world has a size that was tried

@@ -1,8 +1,8 @@
 use Rattle.std.proofs.Common.{List, ◌<◌, ◌++◌, ◌∷◌, [], length, refl, subst, arith}
 use Rattle.std.proofs.lemmas.List.Elements.{All-nil}
-use Rattle.fo_least.specs.declared.cell.Cell.{Cell}
-use Rattle.fo_least.specs.Trials.{trial}
-use Rattle.fo_min.specs.Found.{IsLight}
+use Rattle.fo_core.specs.declared.cell.Cell.{Cell}
+use Rattle.fo_core.specs.Trials.{trial}
+use Rattle.fo_core.specs.Finds.{IsLight}
 use Rattle.fo_min.proofs.SearchLemmas.{answer-met, answer-none, answer-over, truth-met, truth-none, value-excess}
 use Rattle.fo_min.proofs.search.next_truth.Goals as goal
 

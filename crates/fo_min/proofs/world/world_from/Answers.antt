@@ -1,7 +1,7 @@
 use Rattle.std.proofs.Common.{◌≡◌, length}
 use Rattle.fo_core.specs.declared.world.World.{World}
 use Rattle.fo_core.specs.Tables.{Fits}
-use Rattle.fo_least.specs.Least.{world_values}
+use Rattle.fo_core.specs.Least.{world_values}
 use Rattle.fo_least.proofs.Built.{IsWorldOf}
 use Rattle.fo_min.proofs.WorldLemmas.{cut-world, if-ok}
 use Rattle.fo_min.proofs.world.world_from.Goals as goal

@@ -1,5 +1,5 @@
 use Rattle.std.proofs.Common.{◌≡◌, ◌∙◌, ◌+◌, ◌++◌, length, subst, rules, IfOk, OnOk}
-use Rattle.fo_core.specs.declared.syntax.Formula.TheFolds.{the_lemmas}
+use Rattle.fo_core.specs.declared.formula.Formula.TheFolds.{the_lemmas}
 use Rattle.fo_norm.specs.Skolem.{CanForm}
 use Rattle.fo_norm.proofs.SyntaxRows.{CanForm-Rel, CanForm-Not, CanForm-And, CanForm-Or, CanForm-All, CanForm-Ex}
 use Rattle.fo_norm.proofs.Steps.{formed-step, symbols-step, And-formed, Or-formed, And-symbols, Or-symbols, Not-formed, Not-symbols, All-universal, All-existential, Ex-existential, Ex-universal, All-universal_symbols, All-existential_symbols, Ex-existential_symbols, Ex-universal_symbols}

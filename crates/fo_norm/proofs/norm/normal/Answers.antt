@@ -1,5 +1,5 @@
 use Rattle.std.proofs.Common.{◌∙◌, ◌+◌, ◌↔◌, [], List, sym, ap, subst, arith, true, refl}
-use Rattle.fo_core.specs.declared.syntax.Symbol.{Symbol}
+use Rattle.fo_core.specs.declared.signature.Symbol.{Symbol}
 use Rattle.fo_core.specs.Skolems.{skolem_symbols_list, extended}
 use Rattle.fo_core.specs.SortGraph.{FunctionEdge, ClaimsEdge}
 use Rattle.fo_core.specs.Weights.{claim_nodes, skolem_nodes}

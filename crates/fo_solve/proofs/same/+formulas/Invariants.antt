@@ -1,5 +1,5 @@
 use Rattle.std.proofs.Common.{◌≡◌, ℕ, ◌<◌, get_or}
-use Rattle.fo_core.specs.declared.syntax.Formula.{Formula}
+use Rattle.fo_core.specs.declared.formula.Formula.{Formula}
 use Rattle.fo_solve.proofs.same.+formulas.Given as goal
 
 -- all before this one are the same

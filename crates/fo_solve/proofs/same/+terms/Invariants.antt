@@ -1,5 +1,5 @@
 use Rattle.std.proofs.Common.{◌≡◌, ℕ, ◌<◌, get_or}
-use Rattle.fo_core.specs.declared.syntax.Term.{Term}
+use Rattle.fo_core.specs.declared.term.Term.{Term}
 use Rattle.fo_solve.proofs.same.+terms.Given as goal
 
 -- all before this one are the same

@@ -1,5 +1,5 @@
 use Rattle.std.proofs.Common.{◌≡◌, ℕ, ◌<◌, get_or}
-use Rattle.fo_core.specs.declared.syntax.Step.{Step}
+use Rattle.fo_core.specs.declared.system.Step.{Step}
 use Rattle.fo_solve.proofs.same.same_steps.Given as goal
 
 -- all before this one are the same

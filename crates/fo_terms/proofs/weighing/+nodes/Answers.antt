@@ -1,7 +1,7 @@
 use Rattle.std.proofs.Common.{◌+◌, true, false, length, refl, sym, ap, subst, ◌∙◌, rules}
-use Rattle.fo_core.specs.declared.syntax.Formula.{Formula}
-use Rattle.fo_core.specs.declared.syntax.Formula.TheFolds.{the_lemmas}
-use Rattle.fo_core.specs.declared.syntax.Formula.TheVariants as F
+use Rattle.fo_core.specs.declared.formula.Formula.{Formula}
+use Rattle.fo_core.specs.declared.formula.Formula.TheFolds.{the_lemmas}
+use Rattle.fo_core.specs.declared.formula.Formula.TheVariants as F
 use Rattle.fo_terms.specs.Weighable.{CanWeigh}
 use Rattle.fo_core.specs.QueryWeight.{cut}
 use Rattle.fo_terms.proofs.WeighLemmas.{Weighs, parts-more, weigh-Not, weigh-And, weigh-Or, weigh-All, weigh-Ex, weighs-at, weighs-Not, weighs-And, weighs-Or, weighs-All, weighs-not_All, weighs-Ex, weighs-not_Ex}

@@ -1,5 +1,5 @@
 use Rattle.std.proofs.Common.{true, [], refl, ap, ◌∙◌}
-use Rattle.fo_core.specs.declared.syntax.Formula.{Formula}
+use Rattle.fo_core.specs.declared.formula.Formula.{Formula}
 use Rattle.fo_core.specs.Weights.{nodes}
 use Rattle.fo_core.specs.QueryWeight.{cut}
 use Rattle.fo_terms.proofs.Sums.{sum-more}

@@ -1,5 +1,5 @@
 use Rattle.std.proofs.Common.{◌≡◌, take}
-use Rattle.fo_core.specs.declared.syntax.Symbol.{Symbol}
+use Rattle.fo_core.specs.declared.signature.Symbol.{Symbol}
 use Rattle.fo_core.specs.Weights.{added, power}
 use Rattle.fo_core.specs.QueryWeight.{cut}
 use Rattle.fo_terms.proofs.weighing.skolem_nodes.Given as goal

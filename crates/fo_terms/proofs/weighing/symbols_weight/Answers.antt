@@ -1,5 +1,5 @@
 use Rattle.std.proofs.Common.{ap, ◌∙◌}
-use Rattle.fo_core.specs.declared.syntax.Symbol.{Symbol}
+use Rattle.fo_core.specs.declared.signature.Symbol.{Symbol}
 use Rattle.fo_core.specs.QueryWeight.{cut, symbol_weight}
 use Rattle.fo_terms.proofs.Sums.{sum-more}
 use Rattle.fo_terms.proofs.weighing.symbols_weight.Goals as goal

@@ -1,6 +1,6 @@
 use Rattle.std.proofs.Common.{rules, ◌≡◌, ◌≤◌, List, length, sym, ap, subst, ◌∙◌}
 use Rattle.std.specs.List.{All}
-use Rattle.fo_core.specs.declared.syntax.Formula.{Formula}
+use Rattle.fo_core.specs.declared.formula.Formula.{Formula}
 use Rattle.fo_terms.specs.FormWeight.{form_weight}
 use Rattle.fo_terms.specs.Weighable.{CanWeigh}
 use Rattle.fo_terms.proofs.WeightLemmas.{claims-weigh, few_of_weight, weight-cut}

@@ -1,5 +1,5 @@
 use Rattle.std.proofs.Common.{◌++◌, List, map, length, sym, ap, subst, ◌∙◌}
-use Rattle.fo_core.specs.declared.syntax.Symbol.{Symbol}
+use Rattle.fo_core.specs.declared.signature.Symbol.{Symbol}
 use Rattle.fo_core.specs.Sorted.{HasSorts}
 use Rattle.fo_text.specs.declared.lines.Line.{Line}
 use Rattle.fo_text.specs.Reading.{lines_of, cut}

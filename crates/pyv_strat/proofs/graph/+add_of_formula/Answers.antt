@@ -1,6 +1,6 @@
 use Rattle.std.proofs.Common.{◌≡◌, ◌∙◌, sym, ap}
 use Rattle.std.proofs.lemmas.Result.{on_ok_weaker}
-use Rattle.fo_core.specs.declared.syntax.Formula.TheVariants as F
+use Rattle.fo_core.specs.declared.formula.Formula.TheVariants as F
 use Rattle.pyv_strat.proofs.EdgeLemmas.{adds-more, adds-all, adds-as, adds-then}
 use Rattle.pyv_strat.proofs.FormulaLemmas.{EdgeUnder, under-Not, under-And, under-Or, under-All-true, under-All-false, under-Ex-true, under-Ex-false}
 use Rattle.pyv_strat.proofs.graph.+add_of_formula.Goals as goal

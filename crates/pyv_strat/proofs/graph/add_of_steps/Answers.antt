@@ -1,5 +1,5 @@
 use Rattle.std.proofs.Common.{◌≡◌, ◌∙◌, true}
-use Rattle.fo_core.specs.declared.syntax.Step.{Step}
+use Rattle.fo_core.specs.declared.system.Step.{Step}
 use Rattle.fo_core.specs.SortGraph.{FormulaEdge}
 use Rattle.pyv_strat.proofs.EdgeLemmas.{adds-more, adds-all, adds-as}
 use Rattle.pyv_strat.proofs.FormulaLemmas.{under-none}

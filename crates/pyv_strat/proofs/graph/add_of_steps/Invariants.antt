@@ -1,5 +1,5 @@
 use Rattle.std.proofs.Common.{◌≡◌, [], true}
-use Rattle.fo_core.specs.declared.syntax.Step.{Step}
+use Rattle.fo_core.specs.declared.system.Step.{Step}
 use Rattle.fo_core.specs.SortGraph.{FormulaEdge}
 use Rattle.pyv_strat.specs.Edges.{Adds}
 use Rattle.pyv_strat.proofs.EdgeLemmas.{Seen}

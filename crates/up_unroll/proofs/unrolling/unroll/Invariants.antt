@@ -1,6 +1,6 @@
 use Rattle.std.proofs.Common.{◌≡◌, ℕ, ◌<◌}
 use Rattle.std.specs.List.{All}
-use Rattle.fo_min.specs.Found.{IsLight}
+use Rattle.fo_core.specs.Finds.{IsLight}
 use Rattle.up_unroll.specs.Unrolling.{HasNoRunOf, run_queries}
 use Rattle.up_unroll.proofs.unrolling.unroll.Given as goal
 

@@ -1,5 +1,5 @@
 use Rattle.std.proofs.Common.{◌∙◌, [], ap, sym}
-use Rattle.fo_core.specs.declared.syntax.Symbol.{Symbol}
+use Rattle.fo_core.specs.declared.signature.Symbol.{Symbol}
 use Rattle.fo_core.specs.Tables.{no_symbol}
 use Rattle.fo_core.proofs.TableLemmas.{mutable_at, fixed_at}
 use Rattle.fo_core.proofs.world.World.table.Goals as goal

@@ -1,7 +1,0 @@
-use Rattle.std.proofs.Common.{◌≡◌, drop}
-use Rattle.up_claims.specs.Transitions.{all_over as all_over_of}
-use Rattle.up_claims.proofs.transition.all_over.Given as goal
-
--- the quantifiers from this one on stand
-abbrev pub invariant-each : goal.invariant-each
-invariant-each l = l.f ≡ all_over_of (drop l.i l.sorts) l.fn.body
