@@ -19,7 +19,8 @@ use Rattle.fo_core.proofs.ListFacts.{all_left, all_right}
 use Rattle.up_claims.proofs.UnrollLemmas.{meaning-unroll, query-unroll}
 use Rattle.up_unroll.specs.declared.unrolling.Unrolled.{Unrolled}
 use Rattle.up_unroll.specs.declared.unrolling.Unrolled.TheVariants.{Run, NoRun, Over}
-use Rattle.up_unroll.specs.Unrolling.{run_query, run_queries, HasNoRunOf, IsLeastRun, IsUnrollExcess, IsUnrolled}
+use Rattle.up_claims.specs.RunQueries.{run_query, run_queries, HasNoRunOf, IsLeastRun}
+use Rattle.up_unroll.specs.Unrolling.{IsUnrollExcess, IsUnrolled}
 
 module _ (sys : System) (limit steps : ℕ) where
   abbrev Light : Query → Type 0
@@ -53,7 +54,7 @@ module _ (sys : System) (limit steps : ℕ) where
       by_order (inr (inr lt)) = absurd (r.shortest j lt w s.run)
 
   -- no query is above the limit where there is none among those of the least run
-  run-no-excess : IsSystem sys → (k : ℕ) (w : World) (x : Excess) → IsLeastRun sys steps k w → All Light (run_queries sys k ++ least_queries sys.sig (run_query sys k) w) → ¬ IsUnrollExcess sys limit steps x
+  pub run-no-excess : IsSystem sys → (k : ℕ) (w : World) (x : Excess) → IsLeastRun sys steps k w → All Light (run_queries sys k ++ least_queries sys.sig (run_query sys k) w) → ¬ IsUnrollExcess sys limit steps x
   run-no-excess is k w x r light e = by_order (cases_order e.length k)
     where
       shorter_light : All Light (run_queries sys k)
@@ -70,7 +71,7 @@ module _ (sys : System) (limit steps : ℕ) where
       by_order (inr (inr lt)) = e.shorter k lt w r.run
 
   -- nor where there is no run, and none among the queries that show it
-  none-no-excess : (x : Excess) → ((j : ℕ) → j ≤ steps → HasNoRunOf sys j) → All Light (run_queries sys (steps + 1)) → ¬ IsUnrollExcess sys limit steps x
+  pub none-no-excess : (x : Excess) → ((j : ℕ) → j ≤ steps → HasNoRunOf sys j) → All Light (run_queries sys (steps + 1)) → ¬ IsUnrollExcess sys limit steps x
   none-no-excess x none light e =
       let within = e.within in
       no-excess (steps + 1) e.length x (omega (arith, within)) (none e.length e.within) light e.excess
