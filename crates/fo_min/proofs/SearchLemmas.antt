@@ -8,11 +8,12 @@ use Rattle.fo_core.specs.declared.query.Query.{Query}
 use Rattle.fo_core.specs.declared.signature.Sig.{Sig}
 use Rattle.fo_core.specs.declared.signature.Symbol.{Symbol}
 use Rattle.fo_core.specs.declared.world.World.{World}
-use Rattle.fo_core.specs.Finds.{HasNoWorld, HasWorld, IsLight}
+use Rattle.fo_core.specs.Finds.{CanSearch, HasNoWorld, HasWorld, IsLight}
 use Rattle.fo_core.specs.Queries.{IsQuery, MeetsQuery}
 use Rattle.fo_core.specs.QueryWeight.{query_weight}
 use Rattle.fo_core.specs.Sorted.{IsSig, HasSorts}
 use Rattle.fo_core.specs.Tables.{symbol_at, Fits}
+use Rattle.fo_core.specs.declared.cell.Cell.{Cell}
 use Rattle.fo_core.specs.Asked.{is_relation_at, IsNextSize, AreNextSizes, IsNextValue, AreNextValues, tried, size_trials, value_trials, queries_for, IsAsked, at_first, for_size, for_value}
 use Rattle.fo_core.specs.Cells.{cells}
 use Rattle.fo_core.specs.Least.{world_values}
@@ -22,17 +23,19 @@ use Rattle.fo_core.proofs.ListFacts.{all_flat, all_range}
 use Rattle.fo_least.proofs.Naming.{CanTry, MeetsTrial}
 use Rattle.fo_least.proofs.NextLemmas.{push-cases, next_size, can_try_size, next_value, can_try_value, symbol-sorts}
 use Rattle.fo_least.proofs.Settled.{settled-world}
-use Rattle.fo_least.proofs.TrialMeaning.{trial_means, trial_is_query}
+use Rattle.fo_least.proofs.TrialMeaning.{trial_means, trial_is_query, trial_rises}
 use Rattle.fo_min.specs.declared.found.Excess.{Excess}
 use Rattle.fo_min.specs.declared.found.Least.TheVariants.{Model}
 use Rattle.fo_min.specs.declared.search.Answer.{Answer}
 use Rattle.fo_min.specs.declared.search.Answer.TheVariants as Answers
 use Rattle.fo_min.specs.declared.search.Numbers.{Numbers}
 use Rattle.fo_min.specs.declared.search.Numbers.TheVariants as All_of
+use Rattle.fo_min.specs.declared.search.Entries.{Entries}
+use Rattle.fo_min.specs.declared.search.Search.{Search}
 use Rattle.fo_min.specs.Cut.{AreInRange}
 use Rattle.fo_min.specs.Found.{IsExcess, IsFoundLeast}
-use Rattle.fo_min.specs.Search.{IsSettled, IsQueryAnswer, AreSizesFound, AreValuesFound, range_at}
-use Rattle.fo_min.proofs.ListLemmas.{map_more}
+use Rattle.fo_min.specs.Search.{IsSearch, AreEntries, range_next, IsSettled, AreSettled, IsQueryAnswer, AreSizesFound, AreValuesFound, range_at, sorts_of}
+use Rattle.fo_core.proofs.Pieces.{map_more}
 
 -- what holds of each element of a list, behind those before it, and of one more
 each-more : (P : ℕ → List ℕ → ℕ → Type 0) (xs : List ℕ) (y : ℕ) → ((k : ℕ) → k < length xs → P k (take k xs) (get_or xs k 0)) → P (length xs) xs y →
@@ -228,6 +231,29 @@ module _ (sig : Sig) (q : Query) (limit : ℕ) (is : IsSig sig) (sorted : IsQuer
           subst (λ ns. AreLight (queries_for sig q ns (world_values w))) (sym sizes_are) (subst (λ vs. AreLight (queries_for sig q sizes vs)) (sym values_are) (light-queries sizes values s)),
         )
 
+-- ---- what is asked
+
+-- a trial of a size can be asked where the query can be
+pub can-ask-size : (s : Search) → IsSearch s → (sizes : List ℕ) → length sizes < sorts_of s → (n : ℕ) → CanSearch s.sys.now s.order.now (trial s.sys.now.sig s.query.now (sizes ++ n ∷ []) [])
+can-ask-size s can sizes more n = record {
+  sig = can.sig;
+  query = size-is-query s.sys.now.sig s.query.now 0 can.sig can.query sizes more n;
+  rises = trial_rises s.sys.now.sig s.query.now (sizes ++ n ∷ []) [] s.order.now.numbers can.rises;
+}
+
+-- there is a next entry
+pub some-entry : (e : Entries) → AreEntries e → (values : List ℕ) → length values < length e.cells.now → length values < length (cells e.search.sys.now.sig e.sizes.now e.search.query.now.copies)
+some-entry e are values more = subst (λ (cs : List Cell). length values < length cs) are.all more
+
+-- and so can one of a value
+pub can-ask-value : (e : Entries) (limit : ℕ) → AreEntries e → (values : List ℕ) → length values < length e.cells.now → AreSettled e.search limit e.sizes.now values → (v : ℕ) → v < range_next e values →
+    CanSearch e.search.sys.now e.search.order.now (trial e.search.sys.now.sig e.search.query.now e.sizes.now (values ++ v ∷ []))
+can-ask-value e limit are values more settled v in_range = record {
+  sig = are.can.sig;
+  query = value-is-query e.search.sys.now.sig e.search.query.now limit are.can.sig are.can.query e.sizes.now values are.sorts (some-entry e are values more) settled v in_range;
+  rises = trial_rises e.search.sys.now.sig e.search.query.now e.sizes.now (values ++ v ∷ []) e.search.order.now.numbers are.can.rises;
+}
+
 -- ---- what was asked
 
 module _ (sig : Sig) (before limit : ℕ) (same : before ≡ limit) (p : Query) (a : Answer) (h : IsQueryAnswer sig before p a) where
@@ -254,13 +280,13 @@ first-excess sig q p limit x same (e, weight, above) = record {
 }
 
 -- the sizes, and the values, that were found are settled
-pub sizes-found : (sig : Sig) (q : Query) (limit : ℕ) (a : Numbers) (sizes : List ℕ) → a ≡ All_of.Found sizes → AreSizesFound sig q limit a → IsSettled sig q limit sizes [] × (length sizes ≡ sig.sorts)
-sizes-found sig q limit a sizes e h = subst (AreSizesFound sig q limit) e h
+pub sizes-found : (s : Search) (limit : ℕ) (a : Numbers) (sizes : List ℕ) → a ≡ All_of.Found sizes → AreSizesFound s limit a → AreSettled s limit sizes [] × (length sizes ≡ sorts_of s)
+sizes-found s limit a sizes e h = subst (AreSizesFound s limit) e h
 
-pub values-found : (sig : Sig) (q : Query) (before limit : ℕ) (a : Numbers) (lent sizes values : List ℕ) → before ≡ limit → lent ≡ sizes → a ≡ All_of.Found values → AreValuesFound sig q before lent a →
-    IsSettled sig q limit sizes values × (length values ≡ length (cells sig sizes q.copies))
-values-found sig q before limit a lent sizes values same s e h =
-    subst (AreValuesFound sig q limit sizes) e (subst (λ ns. AreValuesFound sig q limit ns a) s (subst (λ n. AreValuesFound sig q n lent a) same h))
+pub values-found : (s : Search) (before limit : ℕ) (a : Numbers) (lent sizes values : List ℕ) → before ≡ limit → lent ≡ sizes → a ≡ All_of.Found values → AreValuesFound s before lent a →
+    AreSettled s limit sizes values × (length values ≡ length (cells s.sys.now.sig sizes s.query.now.copies))
+values-found s before limit a lent sizes values same alike e h =
+    subst (AreValuesFound s limit sizes) e (subst (λ ns. AreValuesFound s limit ns a) alike (subst (λ n. AreValuesFound s n lent a) same h))
 
 pub lent-in-range : (sig : Sig) (copies : ℕ) (lent sizes lent_values values : List ℕ) → lent ≡ sizes → lent_values ≡ values → AreInRange sig copies sizes values → AreInRange sig copies lent lent_values
 lent-in-range sig copies lent sizes lent_values values s v h = subst (λ ns. AreInRange sig copies ns lent_values) (sym s) (subst (AreInRange sig copies sizes) (sym v) h)

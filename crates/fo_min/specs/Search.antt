@@ -1,9 +1,9 @@
 -- How far a search for the least world has come.
-use Rattle.std.specs.Prelude.{◌≡◌, ℕ, ◌<◌, List, [], ◌∷◌, ◌++◌, length, take, slice_index, slice_index_or}
+use Rattle.std.specs.Prelude.{◌≡◌, ℕ, ◌<◌, Bool, List, [], ◌∷◌, ◌++◌, length, take, slice_index, slice_index_or}
 use Rattle.std.specs.List.{All}
 use Rattle.fo_core.specs.declared.query.Query.{Query}
 use Rattle.fo_core.specs.declared.signature.Sig.{Sig}
-use Rattle.fo_core.specs.Finds.{HasNoWorld, HasWorld, IsLight}
+use Rattle.fo_core.specs.Finds.{CanSearch, HasNoWorld, HasWorld, IsLight}
 use Rattle.fo_core.specs.Queries.{MeetsQuery}
 use Rattle.fo_core.specs.QueryWeight.{query_weight}
 use Rattle.fo_core.specs.Tables.{range_of, symbol_at}
@@ -13,12 +13,16 @@ use Rattle.fo_core.specs.Cells.{cells}
 use Rattle.fo_core.specs.Trials.{trial}
 use Rattle.fo_min.specs.declared.search.Answer.{Answer}
 use Rattle.fo_min.specs.declared.search.Answer.TheVariants as Answers
+use Rattle.fo_min.specs.declared.search.Entries.{Entries}
 use Rattle.fo_min.specs.declared.search.NextSize.{NextSize}
 use Rattle.fo_min.specs.declared.search.NextSize.TheVariants as Sizes
 use Rattle.fo_min.specs.declared.search.NextValue.{NextValue}
 use Rattle.fo_min.specs.declared.search.NextValue.TheVariants as Values
 use Rattle.fo_min.specs.declared.search.Numbers.{Numbers}
 use Rattle.fo_min.specs.declared.search.Numbers.TheVariants as All_of
+use Rattle.fo_min.specs.declared.search.Search.{Search}
+use Rattle.fo_core.specs.declared.world.World.{World}
+use Rattle.fo_min.specs.declared.found.Excess.{Excess}
 use Rattle.fo_min.specs.Found.{IsExcess}
 
 -- the place is one in the table of a symbol of the signature
@@ -39,32 +43,81 @@ IsQueryAnswer sig limit p (Answers.Met w) = MeetsQuery sig p w × IsLight sig li
 IsQueryAnswer sig limit p Answers.Nothing = HasNoWorld sig p × IsLight sig limit p
 IsQueryAnswer sig limit p (Answers.Over x) = (x.query ≡ p) × (x.weight ≡ query_weight sig p) × (limit < x.weight)
 
-module _ (sig : Sig) (q : Query) (limit : ℕ) where
-  -- these first sizes and values are settled, and what was asked for that is light
-  pub record IsSettled (sizes values : List ℕ) : Type 0 where
-    pub some : HasWorld sig q
-    pub next_sizes : AreNextSizes sig q sizes
-    pub next_values : AreNextValues sig q sizes values
-    pub light : IsLight sig limit q
-    pub light_sizes : (s : ℕ) → s < length sizes → All (IsLight sig limit) (size_trials sig q (take s sizes) (slice_index sizes s))
-    pub light_values : (k : ℕ) → k < length values → All (IsLight sig limit) (value_trials sig q sizes (take k values) (tried sig q (is_relation_at sig q sizes k) (slice_index values k)))
+-- these first sizes and values are settled, and what was asked for that is light
+pub record IsSettled (sig : Sig) (q : Query) (limit : ℕ) (sizes values : List ℕ) : Type 0 where
+  pub some : HasWorld sig q
+  pub next_sizes : AreNextSizes sig q sizes
+  pub next_values : AreNextValues sig q sizes values
+  pub light : IsLight sig limit q
+  pub light_sizes : (s : ℕ) → s < length sizes → All (IsLight sig limit) (size_trials sig q (take s sizes) (slice_index sizes s))
+  pub light_values : (k : ℕ) → k < length values →
+      All (IsLight sig limit) (value_trials sig q sizes (take k values) (tried sig q (is_relation_at sig q sizes k) (slice_index values k)))
+
+-- ---- in a search
+
+-- its query can be asked
+abbrev pub IsSearch : Search → Type 0
+IsSearch s = CanSearch s.sys.now s.order.now s.query.now
+
+-- how many sorts there are
+abbrev pub sorts_of : Search → ℕ
+sorts_of s = s.sys.now.sig.sorts
+
+module _ (s : Search) (limit : ℕ) where
+  -- these first sizes and values are settled
+  abbrev pub AreSettled : List ℕ → List ℕ → Type 0
+  AreSettled sizes values = IsSettled s.sys.now.sig s.query.now limit sizes values
+
+  -- whether some world has this size too, after these
+  abbrev pub IsSizeAnswer : List ℕ → ℕ → Answer → Type 0
+  IsSizeAnswer sizes n answer = IsQueryAnswer s.sys.now.sig limit (trial s.sys.now.sig s.query.now (sizes ++ n ∷ []) []) answer
+
+  -- the query is above the limit, or one that was asked for these sizes
+  abbrev pub IsAbove : Excess → Type 0
+  IsAbove x = IsExcess s.sys.now.sig s.query.now limit x
 
   -- one more size is settled, and the world has them; or a trial is above the limit
   abbrev pub IsSizeFound : List ℕ → NextSize → Type 0
-  IsSizeFound sizes (Sizes.Found n w) = IsSettled (sizes ++ n ∷ []) [] × MeetsQuery sig (trial sig q (sizes ++ n ∷ []) []) w
-  IsSizeFound sizes (Sizes.Over x) = IsExcess sig q limit x
+  IsSizeFound sizes (Sizes.Found n w) = AreSettled (sizes ++ n ∷ []) [] × MeetsQuery s.sys.now.sig (trial s.sys.now.sig s.query.now (sizes ++ n ∷ []) []) w
+  IsSizeFound sizes (Sizes.Over x) = IsAbove x
 
   -- all sizes are settled
   abbrev pub AreSizesFound : Numbers → Type 0
-  AreSizesFound (All_of.Found sizes) = IsSettled sizes [] × (length sizes ≡ sig.sorts)
-  AreSizesFound (All_of.Over x) = IsExcess sig q limit x
-
-  -- one more value is settled
-  abbrev pub IsValueFound : List ℕ → List ℕ → NextValue → Type 0
-  IsValueFound sizes values (Values.Found v) = IsSettled sizes (values ++ v ∷ [])
-  IsValueFound sizes values (Values.Over x) = IsExcess sig q limit x
+  AreSizesFound (All_of.Found sizes) = AreSettled sizes [] × (length sizes ≡ sorts_of s)
+  AreSizesFound (All_of.Over x) = IsAbove x
 
   -- all values are settled
   abbrev pub AreValuesFound : List ℕ → Numbers → Type 0
-  AreValuesFound sizes (All_of.Found values) = IsSettled sizes values × (length values ≡ length (cells sig sizes q.copies))
-  AreValuesFound sizes (All_of.Over x) = IsExcess sig q limit x
+  AreValuesFound sizes (All_of.Found values) = AreSettled sizes values × (length values ≡ length (cells s.sys.now.sig sizes s.query.now.copies))
+  AreValuesFound sizes (All_of.Over x) = IsAbove x
+
+-- the world meets the query, and its first sorts have these sizes
+abbrev pub HasSizes : Search → List ℕ → World → Type 0
+HasSizes s sizes w = MeetsQuery s.sys.now.sig (trial s.sys.now.sig s.query.now sizes []) w
+
+-- ---- in a search whose sizes are settled
+
+-- each sort has a size, and the places are those of all table entries
+pub record AreEntries (e : Entries) : Type 0 where
+  pub can : IsSearch e.search
+  pub sorts : length e.sizes.now ≡ sorts_of e.search
+  pub all : e.cells.now ≡ cells e.search.sys.now.sig e.sizes.now e.search.query.now.copies
+
+-- whether the entry after these is a relation's
+abbrev pub is_relation_next : Entries → List ℕ → Bool
+is_relation_next e values = is_relation_at e.search.sys.now.sig e.search.query.now e.sizes.now (length values)
+
+-- the values of the entry after these are below this
+abbrev pub range_next : Entries → List ℕ → ℕ
+range_next e values = range_at e.search.sys.now.sig e.search.query.now e.sizes.now (length values)
+
+module _ (e : Entries) (limit : ℕ) where
+  -- whether some world has this value too, after these
+  abbrev pub IsValueAnswer : List ℕ → ℕ → Answer → Type 0
+  IsValueAnswer values v answer =
+      IsQueryAnswer e.search.sys.now.sig limit (trial e.search.sys.now.sig e.search.query.now e.sizes.now (values ++ v ∷ [])) answer
+
+  -- one more value is settled; or a trial is above the limit
+  abbrev pub IsValueFound : List ℕ → NextValue → Type 0
+  IsValueFound values (Values.Found v) = AreSettled e.search limit e.sizes.now (values ++ v ∷ [])
+  IsValueFound values (Values.Over x) = IsAbove e.search limit x

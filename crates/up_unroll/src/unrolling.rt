@@ -20,6 +20,19 @@ pub enum Unrolled {
     Over(Kind, Excess),
 }
 
+impl Unrolled {
+    /// A copy.
+    pub fn copy(&self, alloc: Global) -> Result<Unrolled, AllocError>
+        ensures { IfOk result (λ x. x ≡ self.now) }
+    {
+        match self {
+            Unrolled::Run(run) => Ok(Unrolled::Run(run.copy(alloc)?)),
+            Unrolled::NoRun => Ok(Unrolled::NoRun),
+            Unrolled::Over(kind, excess) => Ok(Unrolled::Over(*kind, excess.copy(alloc)?)),
+        }
+    }
+}
+
 /// Looks for a violating run of at most so many steps, by bounded model checking: of no step, of one
 /// step, and so on (Armin Biere, Alessandro Cimatti, Edmund Clarke and Yunshan Zhu, "Symbolic Model
 /// Checking without BDDs", 1999). Of the runs of fewest steps it gives the one that comes first by
