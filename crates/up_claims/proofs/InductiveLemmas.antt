@@ -1,17 +1,14 @@
 -- Properties are inductive exactly where no world of one or two copies shows that one fails.
-use Rattle.std.proofs.Common.{◌≡◌, ℕ, zero, suc, Bool, cond, ◌+◌, ◌<◌, ◌↔◌, ◌⊎◌, inl, inr, List, [], ◌∷◌, length, get_or, refl, sym, subst, ◌∙◌, arith, add-zero, length-append}
+use Rattle.std.proofs.Common.{◌≡◌, ℕ, ◌+◌, ◌<◌, ◌↔◌, ◌⊎◌, inl, inr, [], length, refl, sym, subst, ◌∙◌, arith, length-append}
 use Rattle.std.proofs.lemmas.List.{get_or_default}
 use Rattle.std.specs.List.{All}
-use Rattle.std.proofs.lemmas.List.Elements.{All-nil, All-cons}
 use Rattle.fo_core.specs.declared.system.System.{System}
-use Rattle.fo_core.specs.declared.system.Step.{Step}
-use Rattle.fo_core.specs.declared.formula.Formula.{Formula}
 use Rattle.fo_core.specs.declared.formula.Formula.TheVariants as F
 use Rattle.fo_core.specs.declared.world.World.{World}
 use Rattle.fo_core.specs.RunLaws.{KeepsAlone, KeepsPair}
 use Rattle.fo_core.specs.Runs.{IsInitial, IsStep, LeadsOn, alone, pair}
-use Rattle.fo_core.specs.Sorted.{AreClosed, IsSystem, IsStepOf}
-use Rattle.fo_core.specs.Tables.{no_table, symbol_at, rank, table_of, Fits, AreTables}
+use Rattle.fo_core.specs.Sorted.{IsSystem}
+use Rattle.fo_core.specs.Tables.{Fits}
 use Rattle.fo_core.specs.Truth.{Truth}
 use Rattle.fo_core.proofs.Decided.{tell}
 use Rattle.fo_core.proofs.RunLemmas.{keeps-alone, keeps-pair}
