@@ -28,7 +28,7 @@ pub struct Named {
 }
 
 /// How much of what is put on a sink is told by a content.
-#[derive(Clone, Copy, PartialEq, Eq)]
+#[derive(Clone, Copy)]
 pub enum Extent {
     Whole,
     Beginning,

@@ -5,25 +5,25 @@ use std::alloc::{AllocError, Global};
 /// Bytes that a sink has room for, where no line says how many.
 const ROOM: u32 = 10_000;
 
-/// What the lines of a content belong to.
-#[derive(Clone, Copy)]
+/// What the content that is being read belongs to.
+#[derive(Drop)]
 enum Open {
     Nothing,
-    Text,
+    Text(String),
     Word,
-    File,
-    Out,
-    Err,
+    File(String),
+    Out(Extent),
+    Err(Extent),
 }
 
-/// The cases of a file that were read so far.
+/// The cases of a file that were read so far, the case that has begun, and the content that has begun.
 #[derive(Drop)]
 struct Reader {
     alloc: Global,
     items: Vec<Item>,
-    text: Option<Named>,
     case: Option<Case>,
     open: Open,
+    content: Content,
 }
 
 /// The cases and texts of a file, and a fault for each of its lines that can't be read.
@@ -31,9 +31,9 @@ pub fn read_items(alloc: Global, path: &str, text: &str) -> anyhow::Result<Vec<I
     let mut reader = Reader {
         alloc,
         items: Vec::new(alloc),
-        text: None,
         case: None,
         open: Open::Nothing,
+        content: Vec::new(alloc),
     };
     for (index, line) in text.split('\n').enumerate() {
         let number = index.saturating_add(1);
@@ -43,7 +43,7 @@ pub fn read_items(alloc: Global, path: &str, text: &str) -> anyhow::Result<Vec<I
             reader.items.push(Item::Fault(place, fault))?;
         }
     }
-    reader.end_item()?;
+    reader.end_case()?;
     Ok(reader.items)
 }
 
@@ -56,66 +56,69 @@ impl Reader {
         if let Some(piece) = piece(self.alloc, line)? {
             return self.add(piece);
         }
-        self.open = Open::Nothing;
+        self.end_content()?;
         let (word, rest) = line.split_once(' ').unwrap_or((line, ""));
         match word {
             "text" => self.begin_text(rest),
             "case" => self.begin_case(rest),
-            _ => match &mut self.case {
-                Some(case) => {
-                    self.open = heading(self.alloc, case, word, rest)?;
-                    Ok(())
-                }
-                None => anyhow::bail!("no case has begun"),
-            },
+            _ => self.heading(word, rest),
         }
     }
 
-    /// Ends the text or case that was begun.
-    fn end_item(&mut self) -> Result<(), AllocError> {
-        if let Some(text) = self.text.take() {
-            self.items.push(Item::Text(text))?;
+    /// Adds a piece to the content that has begun.
+    fn add(&mut self, piece: Piece) -> anyhow::Result<()> {
+        if let Open::Nothing = self.open {
+            anyhow::bail!("no content has begun");
         }
+        self.content.push(piece)?;
+        Ok(())
+    }
+
+    /// Ends the content that has begun, and gives it to what it belongs to.
+    fn end_content(&mut self) -> anyhow::Result<()> {
+        let content = std::mem::replace(&mut self.content, Vec::new(self.alloc));
+        let open = std::mem::replace(&mut self.open, Open::Nothing);
+        match (open, &mut self.case) {
+            (Open::Nothing, _) => Ok(()),
+            (Open::Text(name), _) => Ok(self.items.push(Item::Text(Named { name, content }))?),
+            (open, Some(case)) => give(case, open, content),
+            _ => anyhow::bail!("no case has begun"),
+        }
+    }
+
+    /// Ends the case that has begun, with its last content.
+    fn end_case(&mut self) -> anyhow::Result<()> {
+        self.end_content()?;
         if let Some(case) = self.case.take() {
             self.items.push(Item::Case(case))?;
         }
-        self.open = Open::Nothing;
         Ok(())
     }
 
     fn begin_text(&mut self, name: &str) -> anyhow::Result<()> {
-        self.end_item()?;
+        self.end_case()?;
         anyhow::ensure!(!name.is_empty(), "a text without a name");
-        self.text = Some(named(self.alloc, name)?);
-        self.open = Open::Text;
+        self.open = Open::Text(String::from_str(self.alloc, name)?);
         Ok(())
     }
 
     fn begin_case(&mut self, name: &str) -> anyhow::Result<()> {
-        self.end_item()?;
+        self.end_case()?;
         anyhow::ensure!(!name.is_empty(), "a case without a name");
         self.case = Some(empty_case(self.alloc, name)?);
         Ok(())
     }
 
-    /// Adds a piece to the content that is open.
-    fn add(&mut self, piece: Piece) -> anyhow::Result<()> {
-        if let (Open::Text, Some(text)) = (self.open, &mut self.text) {
-            text.content.push(piece)?;
-            return Ok(());
-        }
+    /// Takes a line of the case that has begun, which is no line of a content.
+    fn heading(&mut self, word: &str, rest: &str) -> anyhow::Result<()> {
         match &mut self.case {
-            Some(case) => add_to_case(case, self.open, piece),
-            None => anyhow::bail!("no content is open"),
+            Some(case) => {
+                self.open = heading(self.alloc, case, word, rest)?;
+                Ok(())
+            }
+            None => anyhow::bail!("no case has begun"),
         }
     }
-}
-
-fn named(alloc: Global, name: &str) -> Result<Named, AllocError> {
-    Ok(Named {
-        name: String::from_str(alloc, name)?,
-        content: Vec::new(alloc),
-    })
 }
 
 fn device(alloc: Global) -> Device {
@@ -147,32 +150,24 @@ fn empty_answer() -> Answer {
     }
 }
 
-/// The content that the last one in a list begins, and nothing where there is none.
-fn push_last(contents: Option<&mut Content>, piece: Piece) -> anyhow::Result<()> {
-    match contents {
-        Some(content) => {
-            content.push(piece)?;
-            Ok(())
-        }
-        None => anyhow::bail!("no content is open"),
+/// Gives a content to the part of a case that it belongs to.
+fn give(case: &mut Case, open: Open, content: Content) -> anyhow::Result<()> {
+    match (open, case.answers.last_mut()) {
+        (Open::Word, _) => case.words.push(content)?,
+        (Open::File(name), _) => case.files.push(Named { name, content })?,
+        (Open::Out(extent), Some(answer)) => answer.out = Some(expected(extent, content)?),
+        (Open::Err(extent), Some(answer)) => answer.err = Some(expected(extent, content)?),
+        _ => anyhow::bail!("no content has begun"),
     }
+    Ok(())
 }
 
-fn add_to_case(case: &mut Case, open: Open, piece: Piece) -> anyhow::Result<()> {
-    match open {
-        Open::Word => push_last(case.words.last_mut(), piece),
-        Open::File => push_last(case.files.last_mut().map(|file| &mut file.content), piece),
-        Open::Out => {
-            let answer = case.answers.last_mut();
-            let expected = answer.and_then(|answer| answer.out.as_mut());
-            push_last(expected.map(|expected| &mut expected.content), piece)
-        }
-        Open::Err => {
-            let answer = case.answers.last_mut();
-            let expected = answer.and_then(|answer| answer.err.as_mut());
-            push_last(expected.map(|expected| &mut expected.content), piece)
-        }
-        Open::Nothing | Open::Text => anyhow::bail!("no content is open"),
+/// What is wanted on a sink, where the content fits the extent.
+fn expected(extent: Extent, content: Content) -> anyhow::Result<Expected> {
+    match extent {
+        Extent::Beginning if content.is_empty() => anyhow::bail!("a beginning without a content"),
+        Extent::Nothing if !content.is_empty() => anyhow::bail!("a content after any"),
+        _ => Ok(Expected { extent, content }),
     }
 }
 
@@ -208,28 +203,23 @@ fn source(alloc: Global, line: &str) -> Result<Option<Source>, AllocError> {
     Ok(None)
 }
 
-/// Takes a line of a case that is no line of a content, and answers which content it opens.
+/// Takes a line of a case that is no line of a content, and answers which content it begins.
 fn heading(alloc: Global, case: &mut Case, word: &str, rest: &str) -> anyhow::Result<Open> {
     match word {
         "words" => add_words(alloc, case, rest)?,
         "word" => {
             anyhow::ensure!(rest.is_empty(), "word stands alone in its line");
-            case.words.push(Vec::new(alloc))?;
             return Ok(Open::Word);
         }
         "file" => {
             anyhow::ensure!(!rest.is_empty(), "a file without a name");
-            case.files.push(named(alloc, rest)?)?;
-            return Ok(Open::File);
+            return Ok(Open::File(String::from_str(alloc, rest)?));
         }
         "prefixes" => cut(alloc, case, rest)?,
         "fail" => fail(case, rest)?,
         "room" => make_room(case, rest)?,
-        "keep" => {
-            anyhow::ensure!(case.kept.is_none() && !rest.is_empty(), "keep has one name");
-            case.kept = Some(String::from_str(alloc, rest)?);
-        }
-        _ => return answer_heading(alloc, case, word, rest),
+        "keep" => keep(alloc, case, rest)?,
+        _ => return answer_heading(case, word, rest),
     }
     Ok(Open::Nothing)
 }
@@ -245,12 +235,19 @@ fn add_words(alloc: Global, case: &mut Case, words: &str) -> anyhow::Result<()> 
 
 fn cut(alloc: Global, case: &mut Case, rest: &str) -> anyhow::Result<()> {
     match rest.strip_prefix("of ") {
-        Some(name) if case.cut.is_none() => {
-            case.cut = Some(String::from_str(alloc, name)?);
-            Ok(())
-        }
+        Some(name) if case.cut.is_none() => case.cut = Some(String::from_str(alloc, name)?),
         _ => anyhow::bail!("prefixes of one file are tried"),
     }
+    Ok(())
+}
+
+fn keep(alloc: Global, case: &mut Case, name: &str) -> anyhow::Result<()> {
+    anyhow::ensure!(
+        !name.is_empty() && case.kept.is_none(),
+        "one name stands after keep"
+    );
+    case.kept = Some(String::from_str(alloc, name)?);
+    Ok(())
 }
 
 fn fail(case: &mut Case, rest: &str) -> anyhow::Result<()> {
@@ -276,8 +273,8 @@ fn make_room(case: &mut Case, rest: &str) -> anyhow::Result<()> {
     Ok(())
 }
 
-/// Takes a line about the answer that is wanted.
-fn answer_heading(alloc: Global, case: &mut Case, word: &str, rest: &str) -> anyhow::Result<Open> {
+/// Takes a line about the answer that is wanted, and answers which content it begins.
+fn answer_heading(case: &mut Case, word: &str, rest: &str) -> anyhow::Result<Open> {
     if word == "or" {
         anyhow::ensure!(rest.is_empty(), "or stands alone in its line");
         case.answers.push(empty_answer())?;
@@ -294,27 +291,21 @@ fn answer_heading(alloc: Global, case: &mut Case, word: &str, rest: &str) -> any
         }
         "out" => {
             anyhow::ensure!(answer.out.is_none(), "a second out");
-            answer.out = Some(expected(alloc, rest)?);
-            Ok(Open::Out)
+            Ok(Open::Out(extent(rest)?))
         }
         "err" => {
             anyhow::ensure!(answer.err.is_none(), "a second err");
-            answer.err = Some(expected(alloc, rest)?);
-            Ok(Open::Err)
+            Ok(Open::Err(extent(rest)?))
         }
         _ => anyhow::bail!("an unknown line"),
     }
 }
 
-fn expected(alloc: Global, rest: &str) -> anyhow::Result<Expected> {
-    let extent = match rest {
-        "" => Extent::Whole,
-        "begins" => Extent::Beginning,
-        "any" => Extent::Nothing,
-        _ => anyhow::bail!("begins or any may stand here"),
-    };
-    Ok(Expected {
-        extent,
-        content: Vec::new(alloc),
-    })
+fn extent(rest: &str) -> anyhow::Result<Extent> {
+    match rest {
+        "" => Ok(Extent::Whole),
+        "begins" => Ok(Extent::Beginning),
+        "any" => Ok(Extent::Nothing),
+        _ => anyhow::bail!("only begins or any may stand here"),
+    }
 }

@@ -25,6 +25,10 @@ pub fn run_case<R: Files + AllocGlobal>(
     let mut files = Vec::new(rt.alloc());
     for file in case.files.as_slice() {
         let name = file.name.clone()?;
+        anyhow::ensure!(
+            find(files.as_slice(), name.as_str()).is_none(),
+            "two files have the name {name}"
+        );
         let bytes = texts.bytes(rt, &file.content, None)?;
         files.push(Loaded { name, bytes })?;
     }
@@ -32,6 +36,11 @@ pub fn run_case<R: Files + AllocGlobal>(
         Some(name) => run_prefixes(rt, case, texts, files.as_slice(), name.as_str()),
         None => run_once(rt, case, texts, files.as_slice()),
     }
+}
+
+/// The file of this name.
+fn find<'a>(files: &'a [Loaded], name: &str) -> Option<&'a Loaded> {
+    files.iter().find(|file| file.name.as_str() == name)
 }
 
 /// Runs a case over its files as they are.
@@ -57,9 +66,11 @@ fn run_prefixes<R: Files + AllocGlobal>(
     files: &[Loaded],
     name: &str,
 ) -> anyhow::Result<Option<String>> {
-    let Some(cut) = files.iter().find(|file| file.name.as_str() == name) else {
+    anyhow::ensure!(case.kept.is_none(), "a case for prefixes keeps nothing");
+    let Some(cut) = find(files, name) else {
         anyhow::bail!("no file has the name {name}");
     };
+    anyhow::ensure!(!cut.bytes.is_empty(), "{name} is empty");
     for len in 0..cut.bytes.len() {
         let prefix = cut.bytes.split_at(len).0;
         let end = Some(Place::end_of(prefix));
