@@ -13,6 +13,3 @@ mod reader;
 
 pub use fault::ParseFault;
 pub use file::{one_tree, parse};
-
-#[cfg(test)]
-mod tests;
