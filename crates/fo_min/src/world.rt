@@ -1,10 +1,12 @@
-ghost use Rattle.std.specs.Prelude.{true, false, ◌≡◌, ◌<◌, ◌≤◌, ◌++◌, ◌∷◌, [], length, map, sum, take, drop, slice_index, IfOk, OnOk};
+ghost use Rattle.std.specs.Prelude.{true, false, ◌≡◌, ◌<◌, ◌≤◌, ◌++◌, ◌∷◌, [], length, map, sum};
+ghost use Rattle.std.specs.Prelude.{take, drop, IfOk, OnOk};
 ghost use Rattle.std.specs.List.{All, filter};
 ghost use Rattle.fo_core.specs.Sorted.{HasSorts, IsSig};
 ghost use Rattle.fo_core.specs.Tables.{is_like, Fits};
 ghost use Rattle.fo_core.specs.Cells.{cells};
 ghost use Rattle.fo_core.specs.Least.{world_values};
-ghost use Rattle.fo_min.specs.Cut.{value_count, counts_like, cut as cut_of, cut_copies as cut_copies_of, AreInRange};
+ghost use Rattle.fo_min.specs.Cut.{value_count, counts_like, cut as cut_of};
+ghost use Rattle.fo_min.specs.Cut.{cut_copies as cut_copies_of, AreInRange};
 
 use fo_core::{Seq, Sig, Symbol, Table, World, tuple_count};
 use std::alloc::{AllocError, Global};
@@ -19,7 +21,9 @@ fn add_count(
 ) -> Result<(), AllocError>
     requires positive { All (λ n. 1 ≤ n) sizes.now }
     requires known { All (λ s. s < length sizes.now) symbol.now.args }
-    ensures { OnOk result (counts.new ≡ counts.old ++ map (value_count sizes.now) (filter (is_like mutable) (symbol.now ∷ []))) }
+    ensures { OnOk result
+        (counts.new ≡ counts.old ++
+        map (value_count sizes.now) (filter (is_like mutable) (symbol.now ∷ []))) }
 {
     if symbol.mutable == mutable {
         let count = tuple_count(sizes, symbol.args.as_slice()).ok_or(AllocError)?;
@@ -124,8 +128,12 @@ fn cut_world(
     requires positive { All (λ n. 1 ≤ n) sizes.now }
     requires known { All (HasSorts (length sizes.now)) symbols.now }
     ensures sizes { IfOk result (λ w. w.sizes ≡ sizes.now) }
-    ensures fixed { IfOk result (λ w. w.fixed ≡ cut_of (counts_like sizes.now symbols.now false) (take (sum (counts_like sizes.now symbols.now false)) values.now)) }
-    ensures copies { IfOk result (λ w. w.copies ≡ cut_copies_of (counts_like sizes.now symbols.now true) copies (drop (sum (counts_like sizes.now symbols.now false)) values.now)) }
+    ensures fixed { IfOk result (λ w.
+        w.fixed ≡ cut_of (counts_like sizes.now symbols.now false)
+        (take (sum (counts_like sizes.now symbols.now false)) values.now)) }
+    ensures copies { IfOk result (λ w.
+        w.copies ≡ cut_copies_of (counts_like sizes.now symbols.now true) copies
+        (drop (sum (counts_like sizes.now symbols.now false)) values.now)) }
 {
     let fixed_counts = counts(alloc, sizes, symbols, false)?;
     let fixed_total = total(fixed_counts.as_slice())?;
@@ -140,8 +148,8 @@ fn cut_world(
 }
 
 /// The world with these sizes and this number of copies whose tables have these values, one table
-/// after the other: those of the immutable symbols, and then copy by copy those of the mutable ones.
-/// Where a table's values don't fit 64 bits in number, it answers out of memory.
+/// after the other: those of the immutable symbols, and then copy by copy those of the mutable
+/// ones. Where the number of a table's values doesn't fit 64 bits, it answers out of memory.
 pub fn world_from(
     alloc: Global,
     sig: &Sig,
