@@ -37,7 +37,7 @@ use Rattle.fo_min.specs.Found.{IsExcess, IsFoundLeast}
 use Rattle.fo_min.specs.Search.{IsSearch, AreEntries, range_next, IsSettled, AreSettled, IsQueryAnswer, AreSizesFound, AreValuesFound, range_at, sorts_of}
 use Rattle.fo_core.proofs.Pieces.{map_more}
 
--- what holds of each element of a list, behind those before it, and of one more
+-- what holds of each element of a list, after those before it, and of one more
 each-more : (P : ℕ → List ℕ → ℕ → Type 0) (xs : List ℕ) (y : ℕ) → ((k : ℕ) → k < length xs → P k (take k xs) (get_or xs k 0)) → P (length xs) xs y →
     (k : ℕ) → k < length (xs ++ y ∷ []) → P k (take k (xs ++ y ∷ [])) (get_or (xs ++ y ∷ []) k 0)
 each-more P xs y each last k lt = by_case (push-cases xs y k lt)

@@ -36,7 +36,7 @@ fn query(alloc: Global) -> Query {
     }
 }
 
-/// The body of the existentials, so many of them.
+/// The body of `count` existentials.
 fn below_existentials(f: &Formula, count: usize) -> &Formula {
     let mut body = f;
     for _ in 0..count {

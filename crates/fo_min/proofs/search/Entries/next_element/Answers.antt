@@ -1,6 +1,5 @@
-use Rattle.std.proofs.Common.{ℕ, ◌<◌, ◌++◌, ◌∷◌, [], List, length, subst, ◌∙◌, below_more, arith}
+use Rattle.std.proofs.Common.{ℕ, ◌<◌, ◌++◌, ◌∷◌, [], ◌∙◌, below_more, arith}
 use Rattle.fo_core.specs.Finds.{HasNoWorld}
-use Rattle.fo_core.specs.declared.cell.Cell.{Cell}
 use Rattle.fo_core.specs.Trials.{trial}
 use Rattle.fo_min.proofs.SearchLemmas.{some-entry, answer-met, answer-none, answer-over, element-met, value-excess, value-lights, value-bound, not_true}
 use Rattle.fo_min.proofs.search.Entries.next_element.Goals as goal

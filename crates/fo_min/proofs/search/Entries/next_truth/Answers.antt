@@ -1,7 +1,6 @@
-use Rattle.std.proofs.Common.{List, ◌<◌, ◌++◌, ◌∷◌, [], length, refl, subst, arith}
+use Rattle.std.proofs.Common.{◌++◌, ◌∷◌, [], refl, arith}
 use Rattle.std.proofs.lemmas.List.Elements.{All-nil}
 use Rattle.fo_core.specs.Finds.{IsLight}
-use Rattle.fo_core.specs.declared.cell.Cell.{Cell}
 use Rattle.fo_core.specs.Trials.{trial}
 use Rattle.fo_min.proofs.SearchLemmas.{some-entry, answer-met, answer-none, answer-over, truth-met, truth-none, value-excess}
 use Rattle.fo_min.proofs.search.Entries.next_truth.Goals as goal
