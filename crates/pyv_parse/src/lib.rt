@@ -13,6 +13,7 @@ mod reader;
 
 pub use fault::ParseFault;
 pub use file::{one_tree, parse};
+pub use pyv_grammar::{Bound, Decl, Expr, Model};
 
 #[cfg(test)]
 mod tests;
