@@ -14,6 +14,3 @@ mod reader;
 pub use fault::ParseFault;
 pub use file::{one_tree, parse};
 pub use pyv_grammar::{Bound, Decl, Expr, Model};
-
-#[cfg(test)]
-mod tests;
