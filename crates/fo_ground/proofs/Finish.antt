@@ -9,7 +9,7 @@ use Rattle.fo_core.specs.Tables.{symbol_at}
 use Rattle.fo_core.specs.Sorted.{IsSymbol, IsSig}
 use Rattle.prop_core.specs.Formula.{MeetsAll}
 use Rattle.fo_norm.specs.declared.form.SkolemForm.{SkolemForm}
-use Rattle.fo_norm.specs.Forms.{IsForm, MeetsForm}
+use Rattle.fo_norm.specs.Forms.{whole, IsForm, MeetsForm}
 use Rattle.fo_terms.specs.declared.terms.Ground.{Ground}
 use Rattle.fo_terms.specs.declared.terms.Universe.{Universe}
 use Rattle.fo_terms.specs.Universe.{IsOf, AreOf, IsTermOf, IsUniverse}
@@ -22,7 +22,7 @@ use Rattle.fo_ground.specs.Layout.{slot, same_var, same_by, fact_by}
 use Rattle.fo_ground.specs.Grounds.{form_layout, IsGrounded}
 use Rattle.fo_ground.proofs.ClassWorld.{IsBasis}
 use Rattle.fo_ground.proofs.FactLemmas.{same_var-sym}
-use Rattle.fo_ground.proofs.Models.{whole, sig-whole, from_values, world-naming, world-met}
+use Rattle.fo_ground.proofs.Models.{sig-whole, from_values, world-naming, world-met}
 use Rattle.fo_ground.proofs.Models.{reads as reads_in, m as named_in}
 
 -- a naming only depends on the atoms of well-sorted terms

@@ -10,8 +10,7 @@ use Rattle.fo_core.specs.declared.world.World.{World}
 use Rattle.fo_core.specs.Sorted.{IsSig, IsSymbol, IsFormula}
 use Rattle.fo_core.specs.Tables.{no_symbol, symbol_at}
 use Rattle.fo_norm.specs.declared.form.SkolemForm.{SkolemForm}
-use Rattle.fo_core.specs.Skolems.{extended}
-use Rattle.fo_norm.specs.Forms.{IsForm, MeetsForm}
+use Rattle.fo_norm.specs.Forms.{whole, IsForm, MeetsForm}
 use Rattle.prop_core.specs.declared.lit.Lit.{Lit}
 use Rattle.prop_core.specs.Formula.{MeetsClause, MeetsAll, AreWithin}
 use Rattle.fo_terms.specs.declared.terms.Universe.{Universe}
@@ -36,7 +35,7 @@ use Rattle.fo_ground.proofs.EqualityLemmas.{equality-from, alike-of, facts-of, t
 use Rattle.fo_ground.specs.Reading.{count_by, tables_by}
 use Rattle.fo_ground.proofs.CongruenceLemmas.{any-default}
 use Rattle.fo_ground.proofs.Finish.{world-values, values-world}
-use Rattle.fo_ground.proofs.Models.{whole, sig-whole, symbol-whole}
+use Rattle.fo_ground.proofs.Models.{sig-whole, symbol-whole}
 use Rattle.fo_ground.proofs.Numbering.{listed}
 use Rattle.fo_ground.proofs.Ready.{place-is, ready}
 use Rattle.fo_ground.proofs.StartLemmas.{term_counts-length}
@@ -44,18 +43,18 @@ use Rattle.fo_ground.proofs.StartLemmas.{term_counts-length}
 abbrev V : Type 0
 V = ℕ → Bool
 
-module _ (sig : Sig) (form : SkolemForm) (u : Universe) (sorts : IsSig sig) (is : IsForm sig form) (universe : IsUniverse (extended sig form.skolems) form.copies u.terms) (arranged : IsArranged (extended sig form.skolems) form.copies u) where
+module _ (sig : Sig) (form : SkolemForm) (u : Universe) (sorts : IsSig sig) (is : IsForm sig form) (universe : IsUniverse (whole sig form) form.copies u.terms) (arranged : IsArranged (whole sig form) form.copies u) where
   abbrev S : Sig
-  S = extended sig form.skolems
+  S = whole sig form
 
-  pub few_terms : AreFew (term_counts (extended sig form.skolems) form.copies) → length u.terms < 2 ^ 32
+  pub few_terms : AreFew (term_counts (whole sig form) form.copies) → length u.terms < 2 ^ 32
   few_terms few = omega (arith, arranged.terms, few.all)
 
-  module _ (light : form_weight sig form (term_counts (extended sig form.skolems) form.copies) ≤ 4000000) where
-    pub few : AreFew (term_counts (extended sig form.skolems) form.copies)
-    few = few_of_weight sig form (term_counts (extended sig form.skolems) form.copies) light
+  module _ (light : form_weight sig form (term_counts (whole sig form) form.copies) ≤ 4000000) where
+    pub few : AreFew (term_counts (whole sig form) form.copies)
+    few = few_of_weight sig form (term_counts (whole sig form) form.copies) light
 
-    module _ (lay : Layout) (same : lay ≡ layout_of (extended sig form.skolems) form.copies u) where
+    module _ (lay : Layout) (same : lay ≡ layout_of (whole sig form) form.copies u) where
       pub laid-out : lay.base < 2 ^ 32 → IsLaidOut u lay
       laid-out small =
           let small' = subst (λ (l : Layout). l.base < 2 ^ 32) same small in
@@ -147,7 +146,7 @@ module _ (sig : Sig) (form : SkolemForm) (u : Universe) (sorts : IsSig sig) (is 
       to-world v m = (_, values-world sig form u g sorts is universe places grounded v m)
 
       -- the world of the classes meets the form, however its parts were found
-      pub read-world : (lay : Layout) → lay ≡ layout_of (extended sig form.skolems) form.copies u → (v : V) → MeetsAll v g.cnf.clauses → (w : World) →
+      pub read-world : (lay : Layout) → lay ≡ layout_of (whole sig form) form.copies u → (v : V) → MeetsAll v g.cnf.clauses → (w : World) →
           w.sizes ≡ map (count_by u lay v) (range_with_len 0 lay.sig.sorts) → w.fixed ≡ tables_by u lay v false 0 0 sig.symbols → w.copies ≡ map (λ c. tables_by u lay v true c 0 sig.symbols) (range_with_len 0 form.copies) →
           MeetsForm sig form w
       read-world lay same v m w sizes fixed copies =

@@ -5,7 +5,7 @@ use Rattle.fo_core.specs.Tables.{symbol_at}
 use Rattle.fo_core.specs.Sorted.{IsSymbol}
 use Rattle.prop_core.specs.Formula.{MeetsAll, AreWithin}
 use Rattle.fo_norm.specs.declared.form.SkolemForm.{SkolemForm}
-use Rattle.fo_core.specs.Skolems.{extended}
+use Rattle.fo_norm.specs.Forms.{whole}
 use Rattle.fo_terms.specs.declared.terms.Universe.{Universe}
 use Rattle.fo_terms.specs.Universe.{IsOf, AreOf}
 use Rattle.fo_ground.specs.declared.grounded.Atom.{Atom}
@@ -29,19 +29,19 @@ IsShaped sig copies u Helper = ⊤
 
 -- how the ground terms and atoms of a form lie
 abbrev pub form_layout : Sig → SkolemForm → Universe → Layout
-form_layout sig form u = layout_of (extended sig form.skolems) form.copies u
+form_layout sig form u = layout_of (whole sig form) form.copies u
 
 -- under these values the axioms of equality and all ground instances of the claims hold
 abbrev pub AreMetBy : Sig → SkolemForm → Universe → (ℕ → Bool) → Type 0
 AreMetBy sig form u v =
-    let S = extended sig form.skolems in
+    let S = whole sig form in
     let lay = form_layout sig form u in
     AreMet u.terms (slot u lay S) (same_by u lay S v) (fact_by u lay S v) S form.copies form.claims
 
 -- the clauses of the form over its ground terms: each variable's atom is named, values that meet the
 -- clauses make the axioms and instances true, and values that do can be filled up to meet the clauses
 pub record IsGrounded (sig : Sig) (form : SkolemForm) (u : Universe) (g : Grounded) : Type 0 where
-  pub listed : IsListed (extended sig form.skolems) form.copies u (form_layout sig form u) g.atoms
+  pub listed : IsListed (whole sig form) form.copies u (form_layout sig form u) g.atoms
   pub within : AreWithin g.cnf.vars g.cnf.clauses
   pub variables : length g.atoms ≡ g.cnf.vars
   pub base : (form_layout sig form u).base ≤ g.cnf.vars

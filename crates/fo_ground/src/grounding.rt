@@ -1,8 +1,7 @@
 ghost use Rattle.std.specs.Prelude.{◌≡◌, ◌≤◌, ◌++◌, ℕ, Bool, List, length, IfOk, OnOk};
 ghost use Rattle.fo_core.specs.declared.world.World.{World};
 ghost use Rattle.fo_core.specs.Sorted.{IsSig};
-ghost use Rattle.fo_core.specs.Skolems.{extended};
-ghost use Rattle.fo_norm.specs.Forms.{IsForm, MeetsForm};
+ghost use Rattle.fo_norm.specs.Forms.{whole, IsForm, MeetsForm};
 ghost use Rattle.fo_terms.specs.Arranged.{IsArranged};
 ghost use Rattle.fo_core.specs.TermCounts.{term_counts};
 ghost use Rattle.fo_terms.specs.FormWeight.{form_weight};
@@ -53,9 +52,9 @@ pub fn ground(
 ) -> Result<Grounded, AllocError>
     requires sig { IsSig sig.now }
     requires form { IsForm sig.now form.now }
-    requires universe { IsUniverse (extended sig.now form.now.skolems) form.now.copies u.now.terms }
-    requires arranged { IsArranged (extended sig.now form.now.skolems) form.now.copies u.now }
-    requires light { form_weight sig.now form.now (term_counts (extended sig.now form.now.skolems) form.now.copies) ≤ 4000000 }
+    requires universe { IsUniverse (whole sig.now form.now) form.now.copies u.now.terms }
+    requires arranged { IsArranged (whole sig.now form.now) form.now.copies u.now }
+    requires light { form_weight sig.now form.now (term_counts (whole sig.now form.now) form.now.copies) ≤ 4000000 }
     ensures well_formed { IfOk result (λ g. AreWithin g.cnf.vars g.cnf.clauses) }
     ensures atoms { IfOk result (λ g. length g.atoms ≡ g.cnf.vars) }
     ensures grounded { IfOk result (λ g. IsGrounded sig.now form.now u.now g) }

@@ -1,7 +1,6 @@
 ghost use Rattle.std.specs.Prelude.{◌≡◌, ◌<◌, ◌^◌, IfOk};
 ghost use Rattle.fo_core.specs.Sorted.{IsSig};
-ghost use Rattle.fo_core.specs.Skolems.{extended};
-ghost use Rattle.fo_norm.specs.Forms.{IsForm};
+ghost use Rattle.fo_norm.specs.Forms.{whole, IsForm};
 ghost use Rattle.fo_terms.specs.Arranged.{IsArranged};
 ghost use Rattle.fo_core.specs.TermCounts.{term_counts};
 ghost use Rattle.fo_terms.specs.FormWeight.{AreFew};
@@ -9,7 +8,7 @@ ghost use Rattle.fo_terms.specs.Universe.{IsUniverse};
 ghost use Rattle.fo_ground.specs.Numbers.{layout_of};
 
 use crate::layout::Layout;
-use crate::starts::{Starts, narrow, row_starts, symbol_starts, whole};
+use crate::starts::{Starts, narrow, row_starts, symbol_starts, with_skolems};
 use fo_core::{Seq, Sig};
 use fo_norm::SkolemForm;
 use fo_terms::{Places, Universe};
@@ -25,14 +24,14 @@ pub fn lay_out(
 ) -> Result<Layout, AllocError>
     requires sig { IsSig sig.now }
     requires form { IsForm sig.now form.now }
-    requires universe { IsUniverse (extended sig.now form.now.skolems) form.now.copies u.now.terms }
-    requires arranged { IsArranged (extended sig.now form.now.skolems) form.now.copies u.now }
-    requires few { AreFew (term_counts (extended sig.now form.now.skolems) form.now.copies) }
-    ensures layout { IfOk result (λ lay. lay ≡ layout_of (extended sig.now form.now.skolems) form.now.copies u.now) }
+    requires universe { IsUniverse (whole sig.now form.now) form.now.copies u.now.terms }
+    requires arranged { IsArranged (whole sig.now form.now) form.now.copies u.now }
+    requires few { AreFew (term_counts (whole sig.now form.now) form.now.copies) }
+    ensures layout { IfOk result (λ lay. lay ≡ layout_of (whole sig.now form.now) form.now.copies u.now) }
     ensures small { IfOk result (λ lay. lay.base < 2 ^ 32) }
 {
     let places = Places::new(alloc, sig, form, u)?;
-    let whole = whole(alloc, sig, form)?;
+    let whole = with_skolems(alloc, sig, form)?;
     let sizes = narrow(alloc, places.sizes.as_slice())?;
     let rows = row_starts(alloc, &whole, form.copies, sizes.as_slice(), u)?;
     let Starts { starts: same, end } = rows;

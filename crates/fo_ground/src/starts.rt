@@ -1,7 +1,7 @@
 ghost use Rattle.std.specs.Prelude.{◌≡◌, ◌<◌, ◌^◌, map, length, IfOk};
 ghost use Rattle.std.specs.List.{All, range_with_len};
 ghost use Rattle.fo_core.specs.Sorted.{IsSig};
-ghost use Rattle.fo_core.specs.Skolems.{extended};
+ghost use Rattle.fo_norm.specs.Forms.{whole};
 ghost use Rattle.fo_terms.specs.Arranged.{IsArranged};
 ghost use Rattle.fo_core.specs.TermCounts.{term_counts};
 ghost use Rattle.fo_terms.specs.Places.{ArePlaces};
@@ -21,9 +21,9 @@ pub struct Starts {
     pub end: u32,
 }
 
-/// The signature with the Skolem functions behind its symbols.
-pub fn whole(alloc: Global, sig: &Sig, form: &SkolemForm) -> Result<Sig, AllocError>
-    ensures { IfOk result (λ s. s ≡ extended sig.now form.now.skolems) }
+/// The signature with the Skolem functions after its own symbols.
+pub fn with_skolems(alloc: Global, sig: &Sig, form: &SkolemForm) -> Result<Sig, AllocError>
+    ensures { IfOk result (λ s. s ≡ whole sig.now form.now) }
 {
     let mut whole = sig.copy(alloc)?;
     'each: for symbol in form.skolems.as_slice() {

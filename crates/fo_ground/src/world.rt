@@ -2,8 +2,7 @@ ghost use Rattle.std.specs.Prelude.{◌≡◌, ◌<◌, ◌≤◌, ℕ, Bool, le
 ghost use Rattle.std.specs.List.{All};
 ghost use Rattle.fo_core.specs.Sorted.{IsSig};
 ghost use Rattle.fo_core.specs.Tables.{symbol_at, tuples as tuples_of};
-ghost use Rattle.fo_core.specs.Skolems.{extended};
-ghost use Rattle.fo_norm.specs.Forms.{IsForm, MeetsForm};
+ghost use Rattle.fo_norm.specs.Forms.{whole, IsForm, MeetsForm};
 ghost use Rattle.fo_terms.specs.Arranged.{IsArranged};
 ghost use Rattle.fo_core.specs.TermCounts.{term_counts};
 ghost use Rattle.fo_terms.specs.FormWeight.{AreFew, form_weight};
@@ -35,9 +34,9 @@ pub fn world_of(
 ) -> Result<World, AllocError>
     requires sig { IsSig sig.now }
     requires form { IsForm sig.now form.now }
-    requires universe { IsUniverse (extended sig.now form.now.skolems) form.now.copies u.now.terms }
-    requires arranged { IsArranged (extended sig.now form.now.skolems) form.now.copies u.now }
-    requires light { form_weight sig.now form.now (term_counts (extended sig.now form.now.skolems) form.now.copies) ≤ 4000000 }
+    requires universe { IsUniverse (whole sig.now form.now) form.now.copies u.now.terms }
+    requires arranged { IsArranged (whole sig.now form.now) form.now.copies u.now }
+    requires light { form_weight sig.now form.now (term_counts (whole sig.now form.now) form.now.copies) ≤ 4000000 }
     requires grounded { IsGrounded sig.now form.now u.now g.now }
     requires values { length values.now ≡ g.now.cnf.vars }
     requires met { MeetsAll (value_of values.now) g.now.cnf.clauses }

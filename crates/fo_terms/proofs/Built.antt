@@ -9,8 +9,7 @@ use Rattle.fo_core.specs.Sorted.{IsSig}
 use Rattle.fo_core.specs.Tables.{symbol_at}
 use Rattle.fo_core.specs.Weights.{added, power}
 use Rattle.fo_norm.specs.declared.form.SkolemForm.{SkolemForm}
-use Rattle.fo_core.specs.Skolems.{extended}
-use Rattle.fo_norm.specs.Forms.{IsForm}
+use Rattle.fo_norm.specs.Forms.{whole, IsForm}
 use Rattle.fo_terms.specs.Arranged.{IsArranged}
 use Rattle.fo_terms.specs.Blocks.{AreBases, AreFirsts, IsRanking, function_numbers, sort_block}
 use Rattle.fo_core.specs.TermCounts.{term_counts, AreCounts}
@@ -27,10 +26,10 @@ use Rattle.fo_terms.proofs.UniverseLemmas.{ends-within, is-arranged, is-universe
 pub uncut : (U counts : List ℕ) → AreFew U → counts ≡ map cut U → counts ≡ U
 uncut U counts few is = is ∙ map_cut-small U (λ k lt. cut-small (get_or U k 0) (omega (arith, few.each k 0 lt)))
 
-module _ (sig : Sig) (form : SkolemForm) (numbers ranked : List ℕ) (is : IsSig sig) (of : IsForm sig form) (rises : Rises (FunctionEdge (extended sig form.skolems)) sig.sorts numbers)
-    (ranking : IsRanking numbers ranked) (few : AreFew (term_counts (extended sig form.skolems) form.copies)) where
+module _ (sig : Sig) (form : SkolemForm) (numbers ranked : List ℕ) (is : IsSig sig) (of : IsForm sig form) (rises : Rises (FunctionEdge (whole sig form)) sig.sorts numbers)
+    (ranking : IsRanking numbers ranked) (few : AreFew (term_counts (whole sig form) form.copies)) where
   abbrev S : Sig
-  S = extended sig form.skolems
+  S = whole sig form
 
   abbrev U : List ℕ
   U = term_counts S form.copies

@@ -1,8 +1,7 @@
 ghost use Rattle.std.specs.Prelude.{◌≡◌, ℕ, ◌+◌, ◌<◌, ◌^◌, ◌++◌, [], ◌∷◌, false, cond, length, slice_index, IfOk, OnOk};
 ghost use Rattle.fo_core.specs.Sorted.{HasSorts, IsSig, IsSymbol};
 ghost use Rattle.fo_core.specs.Tables.{symbol_at};
-ghost use Rattle.fo_core.specs.Skolems.{extended};
-ghost use Rattle.fo_norm.specs.Forms.{IsForm};
+ghost use Rattle.fo_norm.specs.Forms.{whole, IsForm};
 ghost use Rattle.fo_terms.specs.Arranged.{IsArranged, earlier_applications, place_of};
 ghost use Rattle.fo_core.specs.TermCounts.{applications as applications_of, leads_to, term_counts};
 ghost use Rattle.fo_terms.specs.FormWeight.{AreFew};
@@ -28,9 +27,9 @@ pub struct Places {
 
 /// How many terms of each sort the universe has.
 fn sizes(alloc: Global, sig: &Sig, form: &SkolemForm, u: &Universe) -> Result<Seq<u64>, AllocError>
-    requires universe { IsUniverse (extended sig.now form.now.skolems) form.now.copies u.now.terms }
-    requires arranged { IsArranged (extended sig.now form.now.skolems) form.now.copies u.now }
-    ensures { IfOk result (λ sizes. sizes ≡ term_counts (extended sig.now form.now.skolems) form.now.copies) }
+    requires universe { IsUniverse (whole sig.now form.now) form.now.copies u.now.terms }
+    requires arranged { IsArranged (whole sig.now form.now) form.now.copies u.now }
+    ensures { IfOk result (λ sizes. sizes ≡ term_counts (whole sig.now form.now) form.now.copies) }
 {
     let mut sizes = vec![in alloc; 0u64; sig.sorts as usize]?;
     'each: for term in u.terms.as_slice() {
@@ -75,12 +74,12 @@ fn starts(
 ) -> Result<Seq<u32>, AllocError>
     requires sig { IsSig sig.now }
     requires form { IsForm sig.now form.now }
-    requires universe { IsUniverse (extended sig.now form.now.skolems) form.now.copies u.now.terms }
-    requires arranged { IsArranged (extended sig.now form.now.skolems) form.now.copies u.now }
+    requires universe { IsUniverse (whole sig.now form.now) form.now.copies u.now.terms }
+    requires arranged { IsArranged (whole sig.now form.now) form.now.copies u.now }
     requires few { length u.now.terms < 2 ^ 32 }
-    requires sizes { sizes.now ≡ term_counts (extended sig.now form.now.skolems) form.now.copies }
-    ensures len { IfOk result (λ starts. length starts ≡ length (extended sig.now form.now.skolems).symbols) }
-    ensures each { IfOk result (λ starts. (f : ℕ) → f < length (extended sig.now form.now.skolems).symbols → (symbol_at (extended sig.now form.now.skolems) f).relation ≡ false → slice_index starts f ≡ slice_index u.now.firsts (symbol_at (extended sig.now form.now.skolems) f).result + earlier_applications (extended sig.now form.now.skolems) form.now.copies f) }
+    requires sizes { sizes.now ≡ term_counts (whole sig.now form.now) form.now.copies }
+    ensures len { IfOk result (λ starts. length starts ≡ length (whole sig.now form.now).symbols) }
+    ensures each { IfOk result (λ starts. (f : ℕ) → f < length (whole sig.now form.now).symbols → (symbol_at (whole sig.now form.now) f).relation ≡ false → slice_index starts f ≡ slice_index u.now.firsts (symbol_at (whole sig.now form.now) f).result + earlier_applications (whole sig.now form.now) form.now.copies f) }
 {
     let mut starts = Seq::new(alloc);
     let mut next = u.firsts.as_slice().to_vec(alloc)?;
@@ -104,56 +103,13 @@ impl Places {
     ) -> Result<Places, AllocError>
         requires sig { IsSig sig.now }
         requires form { IsForm sig.now form.now }
-        requires universe { IsUniverse (extended sig.now form.now.skolems) form.now.copies u.now.terms }
-        requires arranged { IsArranged (extended sig.now form.now.skolems) form.now.copies u.now }
-        requires few { AreFew (term_counts (extended sig.now form.now.skolems) form.now.copies) }
-        ensures { IfOk result (λ places. ArePlaces (extended sig.now form.now.skolems) form.now.copies u.now places) }
+        requires universe { IsUniverse (whole sig.now form.now) form.now.copies u.now.terms }
+        requires arranged { IsArranged (whole sig.now form.now) form.now.copies u.now }
+        requires few { AreFew (term_counts (whole sig.now form.now) form.now.copies) }
+        ensures { IfOk result (λ places. ArePlaces (whole sig.now form.now) form.now.copies u.now places) }
     {
         let sizes = sizes(alloc, sig, form, u)?;
         let starts = starts(alloc, sig, form, u, sizes.as_slice())?;
         Ok(Places { sizes, starts })
-    }
-
-    /// A copy.
-    pub fn copy(&self, alloc: Global) -> Result<Places, AllocError>
-        ensures { IfOk result (λ x. x ≡ self.now) }
-    {
-        Ok(Places {
-            sizes: Seq::from_vec(self.sizes.as_slice().to_vec(alloc)?),
-            starts: self.starts.copy(alloc)?,
-        })
-    }
-
-    /// The place of the function in the copy, applied to the terms at these places, which have to be
-    /// of its arguments' sorts. The copy of an immutable function is 0.
-    ///
-    /// It takes no memory, and time linear in the number of arguments.
-    pub fn place(
-        &self,
-        sig: &Sig,
-        form: &SkolemForm,
-        u: &Universe,
-        symbol: u32,
-        copy: u32,
-        args: &[u32],
-    ) -> u32
-        requires sig { IsSig sig.now }
-        requires form { IsForm sig.now form.now }
-        requires ready { ArePlaces (extended sig.now form.now.skolems) form.now.copies u.now self.now }
-        requires arranged { IsArranged (extended sig.now form.now.skolems) form.now.copies u.now }
-        requires few { length u.now.terms < 2 ^ 32 }
-        requires symbol { IsSymbol (extended sig.now form.now.skolems) form.now.copies false symbol copy }
-        requires args { AreOf u.now.terms args.now (symbol_at (extended sig.now form.now.skolems) symbol).args }
-        ensures place { result ≡ place_of (extended sig.now form.now.skolems) form.now.copies u.now.firsts symbol copy args.now }
-        ensures term { IsTermOf (extended sig.now form.now.skolems) form.now.copies u.now.terms symbol copy args.now result }
-    {
-        let sorts = symbol_of(sig, form, symbol).args.as_slice();
-        let mut offset = copy as u64;
-        'each: for (i, arg) in args.iter().enumerate() {
-            let sort = sorts[i] as usize;
-            let behind = *arg - *u.firsts.at(sort);
-            offset = offset * *self.sizes.at(sort) + u64::from(behind);
-        }
-        *self.starts.at(symbol as usize) + offset as u32
     }
 }

@@ -1,6 +1,5 @@
 ghost use Rattle.fo_core.specs.Sorted.{IsSig};
-ghost use Rattle.fo_core.specs.Skolems.{extended};
-ghost use Rattle.fo_norm.specs.Forms.{IsForm};
+ghost use Rattle.fo_norm.specs.Forms.{whole, IsForm};
 ghost use Rattle.fo_terms.specs.Arranged.{IsArranged};
 ghost use Rattle.fo_core.specs.TermCounts.{term_counts};
 ghost use Rattle.fo_terms.specs.FormWeight.{AreFew};
@@ -147,9 +146,9 @@ fn the_weight_counts_nodes_sorts_and_symbols(rt: HostRuntime) -> Result<(), Fail
 fn are_found(alloc: Global, sig: &Sig, form: &SkolemForm, u: &Universe) -> Result<bool, AllocError>
     requires sig { IsSig sig.now }
     requires form { IsForm sig.now form.now }
-    requires universe { IsUniverse (extended sig.now form.now.skolems) form.now.copies u.now.terms }
-    requires arranged { IsArranged (extended sig.now form.now.skolems) form.now.copies u.now }
-    requires few { AreFew (term_counts (extended sig.now form.now.skolems) form.now.copies) }
+    requires universe { IsUniverse (whole sig.now form.now) form.now.copies u.now.terms }
+    requires arranged { IsArranged (whole sig.now form.now) form.now.copies u.now }
+    requires few { AreFew (term_counts (whole sig.now form.now) form.now.copies) }
 {
     let places = Places::new(alloc, sig, form, u)?.copy(alloc)?;
     'each: for (p, term) in u.terms.as_slice().iter().enumerate() {

@@ -6,8 +6,7 @@
 ghost use Rattle.std.specs.Prelude.{◌≤◌, IfOk};
 ghost use Rattle.fo_core.specs.Sorted.{IsSig};
 ghost use Rattle.fo_core.specs.SortGraph.{FunctionEdge, Rises};
-ghost use Rattle.fo_core.specs.Skolems.{extended};
-ghost use Rattle.fo_norm.specs.Forms.{IsForm};
+ghost use Rattle.fo_norm.specs.Forms.{whole, IsForm};
 ghost use Rattle.fo_core.specs.TermCounts.{term_counts};
 ghost use Rattle.fo_terms.specs.FormWeight.{form_weight, AreFew};
 
@@ -40,9 +39,9 @@ fn order(alloc: Global) -> anyhow::Result<Order> {
 fn weight_of(alloc: Global, sig: &Sig, form: &SkolemForm, order: &Order) -> anyhow::Result<u64>
     requires sig { IsSig sig.now }
     requires form { IsForm sig.now form.now }
-    requires rises { Rises (FunctionEdge (extended sig.now form.now.skolems)) sig.now.sorts order.now.numbers }
-    ensures few { IfOk result (λ w. w ≤ 4000000 → AreFew (term_counts (extended sig.now form.now.skolems) form.now.copies)) }
-    ensures light { IfOk result (λ w. w ≤ 4000000 → form_weight sig.now form.now (term_counts (extended sig.now form.now.skolems) form.now.copies) ≤ 4000000) }
+    requires rises { Rises (FunctionEdge (whole sig.now form.now)) sig.now.sorts order.now.numbers }
+    ensures few { IfOk result (λ w. w ≤ 4000000 → AreFew (term_counts (whole sig.now form.now) form.now.copies)) }
+    ensures light { IfOk result (λ w. w ≤ 4000000 → form_weight sig.now form.now (term_counts (whole sig.now form.now) form.now.copies) ≤ 4000000) }
 {
     let counts = counts(alloc, sig, form, order)?;
     Ok(weight(sig, form, counts.as_slice()))

@@ -1,7 +1,7 @@
 use Rattle.std.proofs.Common.{◌≡◌, ◌+◌, ◌<◌, List, length, set, ap, ◌∙◌, arith, length-set}
 use Rattle.std.specs.Prelude.{slice_index}
 use Rattle.std.proofs.lemmas.List.{get_or_read}
-use Rattle.fo_core.specs.Skolems.{extended}
+use Rattle.fo_norm.specs.Forms.{whole}
 use Rattle.fo_terms.specs.declared.terms.Ground.{Ground}
 use Rattle.fo_terms.specs.Universe.{no_ground, sort_at}
 use Rattle.fo_terms.proofs.PlaceSteps.{count-more, counted-all}
@@ -9,7 +9,7 @@ use Rattle.fo_terms.proofs.places.sizes.Goals as goal
 
 pub each-preserved : goal.each-preserved
 each-preserved c =
-    let S = extended c.args.sig.now c.args.form.now.skolems in
+    let S = whole c.args.sig.now c.args.form.now in
     let ts = c.args.u.now.terms in
     let sizes = c.each.sizes.items in
     let p = c.each.term-index in
@@ -29,5 +29,5 @@ each-preserved c =
 
 pub returns : goal.returns
 returns c =
-    let S = extended c.args.sig.now c.args.form.now.skolems in
+    let S = whole c.args.sig.now c.args.form.now in
     c.from_vec.ensures ∙ counted-all S c.args.form.now.copies c.args.u.now c.requires.universe c.requires.arranged c.each.sizes.items c.each.term-index (omega (arith, ap length c.as_slice-term-items.ensures)) c.each.invariant.len c.each.invariant.each

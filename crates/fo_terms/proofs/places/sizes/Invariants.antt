@@ -1,6 +1,6 @@
 use Rattle.std.proofs.Common.{ℕ, ◌≡◌, ◌<◌, length}
 use Rattle.std.specs.Prelude.{slice_index}
-use Rattle.fo_core.specs.Skolems.{extended}
+use Rattle.fo_norm.specs.Forms.{whole}
 use Rattle.fo_core.specs.TermCounts.{term_counts}
 use Rattle.fo_terms.proofs.PlaceSteps.{counted_of}
 use Rattle.fo_terms.proofs.places.sizes.Given as goal
@@ -9,5 +9,5 @@ use Rattle.fo_terms.proofs.places.sizes.Given as goal
 abbrev pub invariant-each : goal.invariant-each
 invariant-each l = record {
   len : length l.sizes.items ≡ l.sig.sorts;
-  each : (s : ℕ) → s < l.sig.sorts → slice_index l.sizes.items s ≡ counted_of l.u.firsts (term_counts (extended l.sig l.form.skolems) l.form.copies) l.term-index s;
+  each : (s : ℕ) → s < l.sig.sorts → slice_index l.sizes.items s ≡ counted_of l.u.firsts (term_counts (whole l.sig l.form) l.form.copies) l.term-index s;
 }

@@ -3,7 +3,7 @@ use Rattle.std.specs.Prelude.{slice_index}
 use Rattle.std.proofs.lemmas.List.{length_push}
 use Rattle.fo_core.specs.declared.signature.Symbol.{Symbol}
 use Rattle.fo_core.specs.Tables.{no_symbol, symbol_at}
-use Rattle.fo_core.specs.Skolems.{extended}
+use Rattle.fo_norm.specs.Forms.{whole}
 use Rattle.fo_core.specs.TermCounts.{applications}
 use Rattle.fo_terms.proofs.Functions.{whole_sorts}
 use Rattle.fo_terms.proofs.PlaceSteps.{applications-few, next-more, starts-more}
@@ -11,7 +11,7 @@ use Rattle.fo_terms.proofs.places.starts.Goals as goal
 
 pub push_start-requires-clause-few : goal.push_start-requires-clause-few
 push_start-requires-clause-few c = λ function.
-    let S = extended c.args.sig.now c.args.form.now.skolems in
+    let S = whole c.args.sig.now c.args.form.now in
     let n = c.args.form.now.copies in
     let k = c.each.number in
     let lt : k < length S.symbols = omega (arith, c.each.invariant.all) in
@@ -25,7 +25,7 @@ push_start-requires-clause-few c = λ function.
 
 pub each-preserved : goal.each-preserved
 each-preserved c =
-    let S = extended c.args.sig.now c.args.form.now.skolems in
+    let S = whole c.args.sig.now c.args.form.now in
     let n = c.args.form.now.copies in
     let k = c.each.number in
     let lt : k < length S.symbols = omega (arith, c.each.invariant.all) in

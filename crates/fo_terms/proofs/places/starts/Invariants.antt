@@ -3,7 +3,7 @@ use Rattle.std.specs.List.{filter}
 use Rattle.std.specs.Prelude.{slice_index}
 use Rattle.fo_core.specs.Tables.{symbol_at}
 use Rattle.fo_core.specs.Weights.{added}
-use Rattle.fo_core.specs.Skolems.{extended}
+use Rattle.fo_norm.specs.Forms.{whole}
 use Rattle.fo_terms.specs.Arranged.{earlier_applications}
 use Rattle.fo_core.specs.TermCounts.{applications, leads_to, term_counts}
 use Rattle.fo_terms.proofs.places.starts.Given as goal
@@ -11,7 +11,7 @@ use Rattle.fo_terms.proofs.places.starts.Given as goal
 -- the starts of the functions so far, and where the next function to each sort starts
 abbrev pub invariant-each : goal.invariant-each
 invariant-each l =
-    let S = extended l.sig l.form.skolems in
+    let S = whole l.sig l.form in
     let n = l.form.copies in
     record {
       all : l.count ≡ length S.symbols;

@@ -2,7 +2,7 @@ use Rattle.std.proofs.Common.{◌≡◌, ℕ, ◌+◌, ◌-◌, ◌*◌, List, g
 use Rattle.std.specs.Prelude.{slice_index}
 use Rattle.fo_core.specs.declared.signature.Symbol.{Symbol}
 use Rattle.fo_core.specs.Tables.{symbol_at, tuples, place as place_in}
-use Rattle.fo_core.specs.Skolems.{extended}
+use Rattle.fo_norm.specs.Forms.{whole}
 use Rattle.fo_terms.specs.Arranged.{offsets, place_of}
 use Rattle.fo_core.specs.TermCounts.{term_counts}
 use Rattle.fo_terms.specs.Universe.{IsTermOf}
@@ -12,7 +12,7 @@ use Rattle.fo_terms.proofs.places.Places.place.Goals as goal
 
 pub overflow_sub-behind : goal.overflow_sub-behind
 overflow_sub-behind c =
-    let S = extended c.args.sig.now c.args.form.now.skolems in
+    let S = whole c.args.sig.now c.args.form.now in
     let sorted = whole_sorts c.args.sig.now c.args.form.now c.requires.sig c.requires.form in
     let b = arg-in S c.args.form.now.copies c.args.u.now c.requires.arranged c.args.symbol c.args.copy c.args.args.now sorted c.requires.symbol c.requires.args c.requires.few c.each.i c.each-test.true in
     let sorts = c.as_slice-sorts.ensures ∙ ap (λ (s : Symbol). s.args) c.symbol_of.ensures in
@@ -21,7 +21,7 @@ overflow_sub-behind c =
 
 pub overflow_mul-offset : goal.overflow_mul-offset
 overflow_mul-offset c =
-    let S = extended c.args.sig.now c.args.form.now.skolems in
+    let S = whole c.args.sig.now c.args.form.now in
     let sorted = whole_sorts c.args.sig.now c.args.form.now c.requires.sig c.requires.form in
     let fits = place-fits S c.args.form.now.copies c.args.u.now c.requires.arranged c.args.symbol c.args.copy c.args.args.now sorted c.requires.symbol c.requires.args c.requires.few c.each.i c.each.offset c.each.invariant c.each-test.true in
     let sorts = c.as_slice-sorts.ensures ∙ ap (λ (s : Symbol). s.args) c.symbol_of.ensures in
@@ -31,7 +31,7 @@ overflow_mul-offset c =
 
 pub overflow_add-offset : goal.overflow_add-offset
 overflow_add-offset c =
-    let S = extended c.args.sig.now c.args.form.now.skolems in
+    let S = whole c.args.sig.now c.args.form.now in
     let sorted = whole_sorts c.args.sig.now c.args.form.now c.requires.sig c.requires.form in
     let fits = place-fits S c.args.form.now.copies c.args.u.now c.requires.arranged c.args.symbol c.args.copy c.args.args.now sorted c.requires.symbol c.requires.args c.requires.few c.each.i c.each.offset c.each.invariant c.each-test.true in
     let sorts = c.as_slice-sorts.ensures ∙ ap (λ (s : Symbol). s.args) c.symbol_of.ensures in
@@ -42,7 +42,7 @@ overflow_add-offset c =
 
 pub each-preserved : goal.each-preserved
 each-preserved c =
-    let S = extended c.args.sig.now c.args.form.now.skolems in
+    let S = whole c.args.sig.now c.args.form.now in
     let U = term_counts S c.args.form.now.copies in
     let sorted = whole_sorts c.args.sig.now c.args.form.now c.requires.sig c.requires.form in
     let more = place-more S c.args.form.now.copies c.args.u.now c.requires.arranged c.args.symbol c.args.copy c.args.args.now sorted c.requires.symbol c.requires.args c.requires.few c.each.i c.each.offset c.each.invariant c.each-test.true in
@@ -60,7 +60,7 @@ each-preserved c =
 
 pub overflow_cast-result : goal.overflow_cast-result
 overflow_cast-result c =
-    let S = extended c.args.sig.now c.args.form.now.skolems in
+    let S = whole c.args.sig.now c.args.form.now in
     let sorted = whole_sorts c.args.sig.now c.args.form.now c.requires.sig c.requires.form in
     let done = place-done S c.args.form.now.copies c.args.u.now c.requires.arranged c.args.symbol c.args.copy c.args.args.now sorted c.requires.symbol c.requires.args c.requires.few c.each.i c.each.offset c.each.invariant (omega arith) in
     let within = placed-within S c.args.form.now.copies c.args.u.now c.requires.arranged c.args.symbol c.args.copy c.args.args.now sorted c.requires.symbol c.requires.args c.requires.few in
@@ -68,7 +68,7 @@ overflow_cast-result c =
 
 pub overflow_add-result : goal.overflow_add-result
 overflow_add-result c =
-    let S = extended c.args.sig.now c.args.form.now.skolems in
+    let S = whole c.args.sig.now c.args.form.now in
     let sorted = whole_sorts c.args.sig.now c.args.form.now c.requires.sig c.requires.form in
     let done = place-done S c.args.form.now.copies c.args.u.now c.requires.arranged c.args.symbol c.args.copy c.args.args.now sorted c.requires.symbol c.requires.args c.requires.few c.each.i c.each.offset c.each.invariant (omega arith) in
     let within = placed-within S c.args.form.now.copies c.args.u.now c.requires.arranged c.args.symbol c.args.copy c.args.args.now sorted c.requires.symbol c.requires.args c.requires.few in
@@ -77,7 +77,7 @@ overflow_add-result c =
 
 pub returns-clause-place : goal.returns-clause-place
 returns-clause-place c =
-    let S = extended c.args.sig.now c.args.form.now.skolems in
+    let S = whole c.args.sig.now c.args.form.now in
     let sorted = whole_sorts c.args.sig.now c.args.form.now c.requires.sig c.requires.form in
     let done = place-done S c.args.form.now.copies c.args.u.now c.requires.arranged c.args.symbol c.args.copy c.args.args.now sorted c.requires.symbol c.requires.args c.requires.few c.each.i c.each.offset c.each.invariant (omega arith) in
     let start = c.at-2.ensures 0 ∙ c.requires.ready.starts c.args.symbol c.requires.symbol.within c.requires.symbol.kind in
@@ -85,7 +85,7 @@ returns-clause-place c =
 
 pub returns-clause-term : goal.returns-clause-term
 returns-clause-term c =
-    let S = extended c.args.sig.now c.args.form.now.skolems in
+    let S = whole c.args.sig.now c.args.form.now in
     let n = c.args.form.now.copies in
     let sorted = whole_sorts c.args.sig.now c.args.form.now c.requires.sig c.requires.form in
     let done = place-done S n c.args.u.now c.requires.arranged c.args.symbol c.args.copy c.args.args.now sorted c.requires.symbol c.requires.args c.requires.few c.each.i c.each.offset c.each.invariant (omega arith) in

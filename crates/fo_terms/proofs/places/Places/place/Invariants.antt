@@ -1,7 +1,7 @@
 use Rattle.std.proofs.Common.{◌≡◌, ◌+◌, ◌*◌, drop, map}
 use Rattle.std.specs.Prelude.{slice_index}
 use Rattle.fo_core.specs.Tables.{symbol_at, tuples, place as place_in}
-use Rattle.fo_core.specs.Skolems.{extended}
+use Rattle.fo_norm.specs.Forms.{whole}
 use Rattle.fo_terms.specs.Arranged.{offsets}
 use Rattle.fo_core.specs.TermCounts.{term_counts}
 use Rattle.fo_terms.proofs.places.Places.place.Given as goal
@@ -9,7 +9,7 @@ use Rattle.fo_terms.proofs.places.Places.place.Given as goal
 -- the offset so far, and that of what is left
 abbrev pub invariant-each : goal.invariant-each
 invariant-each l =
-    let S = extended l.sig l.form.skolems in
+    let S = whole l.sig l.form in
     let ss = (symbol_at S l.symbol).args in
     let ns = map (slice_index (term_counts S l.form.copies)) ss in
     let xs = offsets l.u.firsts ss l.args in
