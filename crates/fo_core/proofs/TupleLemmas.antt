@@ -85,3 +85,17 @@ tuples_number (n ∷ ns) =
     copied_length (all_tuples ns) (λ x xs. x ∷ xs) (range_with_len 0 n)
     ∙ ap (λ m. m * length (all_tuples ns)) (length-range_with_len 0 n)
     ∙ ap (λ m. n * m) (tuples_number ns)
+
+-- each stands at the place of its number
+pub tuples-each : (ns : List ℕ) (j : ℕ) (d : List ℕ) → j < tuples ns → get_or (all_tuples ns) j d ≡ tuple_at ns j
+tuples-each ns j d lt = sym (tuple-place ns (get_or (all_tuples ns) j d) (tuples-below ns j d within)) ∙ ap (tuple_at ns) numbered
+  where
+    within : j < length (all_tuples ns)
+    within = omega (arith, tuples_number ns, lt)
+
+    numbered : place ns (get_or (all_tuples ns) j d) ≡ j
+    numbered =
+        sym (get_or-map (place ns) (all_tuples ns) j d 0 within)
+        ∙ ap (λ (ps : List ℕ). get_or ps j 0) (tuple-places ns)
+        ∙ get_or-range_with_len 0 (tuples ns) j 0 lt
+        ∙ (let e : 0 + j ≡ j = omega arith in e)

@@ -4,10 +4,12 @@ pub mod Cells
 pub mod Embedding
 pub mod Finds
 pub mod Least
+pub mod Literals
 pub mod Named
 pub mod Over
 pub mod Queries
 pub mod QueryWeight
+pub mod RunLaws
 pub mod Runs
 pub mod Shift
 pub mod Skolems

@@ -1,6 +1,7 @@
 -- The weight of a query: how much there is once all is instantiated by ground terms.
-use Rattle.std.specs.Prelude.{ℕ, ◌+◌, ◌*◌, min, true, List, [], slice_index}
+use Rattle.std.specs.Prelude.{ℕ, ◌+◌, ◌*◌, ◌≤◌, min, true, List, [], ◌∷◌, ◌++◌, slice_index}
 use Rattle.fo_core.specs.declared.query.Query.{Query}
+use Rattle.fo_core.specs.declared.formula.Formula.{Formula}
 use Rattle.fo_core.specs.declared.signature.Sig.{Sig}
 use Rattle.fo_core.specs.declared.signature.Symbol.{Symbol}
 use Rattle.fo_core.specs.Skolems.{skolem_symbols_list, extended}
@@ -30,3 +31,10 @@ abbrev pub query_weight : Sig → Query → ℕ
 query_weight sig q =
     let U = term_counts (extended sig (skolem_symbols_list true q.claims [])) q.copies in
     cut (claim_nodes U q.claims + signature_weight sig q.copies U)
+
+-- no query is heavier with the claim f than with the claim g in its place
+abbrev pub IsNoHeavier : Formula → Formula → Type 0
+IsNoHeavier f g =
+    (sig : Sig) (copies : ℕ) (before after : List Formula) →
+    query_weight sig (record { copies = copies; claims = before ++ f ∷ after })
+    ≤ query_weight sig (record { copies = copies; claims = before ++ g ∷ after })

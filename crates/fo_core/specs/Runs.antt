@@ -56,6 +56,14 @@ pub record IsViolatingRun (sys : System) (w : World) : Type 0 where
 abbrev pub alone : World → ℕ → World
 alone w c = record { sizes = w.sizes; fixed = w.fixed; copies = slice_index_or w.copies c [] ∷ [] }
 
+-- copies c and c + 1, as a world of two copies
+abbrev pub pair : World → ℕ → World
+pair w c = record {
+  sizes = w.sizes;
+  fixed = w.fixed;
+  copies = slice_index_or w.copies c [] ∷ slice_index_or w.copies (c + 1) [] ∷ [];
+}
+
 -- the one-copy world s is the last copy of a run of at most k steps
 pub record Reach (sys : System) (k : ℕ) (s : World) : Type 0 where
   pub run : World

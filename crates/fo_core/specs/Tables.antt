@@ -1,5 +1,5 @@
 -- Where a world keeps the value of a symbol, and when a world is one for a signature.
-use Rattle.std.specs.Prelude.{◌≡◌, ℕ, ◌+◌, ◌*◌, ◌<◌, ◌≤◌, Bool, true, false, cond, List, [], ◌∷◌, length, map, take, slice_index, slice_index_or, ⊤}
+use Rattle.std.specs.Prelude.{◌≡◌, ℕ, ◌+◌, ◌*◌, ◌^◌, ◌<◌, ◌≤◌, Bool, true, false, cond, List, [], ◌∷◌, length, map, take, slice_index, slice_index_or, ⊤}
 use Rattle.std.specs.Bool.{beq}
 use Rattle.std.specs.List.{All, filter}
 use Rattle.fo_core.specs.declared.signature.Symbol.{Symbol}
@@ -76,3 +76,8 @@ pub record Fits (sig : Sig) (w : World) : Type 0 where
   pub fixed : AreTables w.sizes (filter (is_like false) sig.symbols) w.fixed
   pub some_copy : 1 ≤ length w.copies
   pub copies : All (AreTables w.sizes (filter (is_like true) sig.symbols)) w.copies
+
+-- the world fits the signature, and its copies have numbers of 32 bits
+pub record IsReadable (sig : Sig) (w : World) : Type 0 where
+  pub fits : Fits sig w
+  pub few : length w.copies < 2 ^ 32

@@ -8,8 +8,8 @@ ghost use Rattle.fo_core.specs.Truth.{Truth};
 ghost use Rattle.fo_core.specs.Shift.{moved as moved_of, shift, shift_term, CanShift, CanShiftTerm};
 
 use crate::boxed::Boxed;
-use crate::seq::Seq;
 use crate::formula::Formula;
+use crate::seq::Seq;
 use crate::signature::Sig;
 use crate::term::Term;
 use std::alloc::{AllocError, Global};

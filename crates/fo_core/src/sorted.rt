@@ -83,7 +83,12 @@ fn have_one_sort(sig: &Sig, copies: u32, scope: &[u32], a: &Term, b: &Term) -> b
 
 /// Whether the formula is well-sorted under variables of the sorts in `scope`, which ends as it
 /// began.
-pub fn is_formula(sig: &Sig, copies: u32, scope: &mut Vec<u32>, f: &Formula) -> Result<bool, AllocError>
+pub fn is_formula(
+    sig: &Sig,
+    copies: u32,
+    scope: &mut Vec<u32>,
+    f: &Formula,
+) -> Result<bool, AllocError>
     ensures sorted { IfOk result (λ b. IsTrue b ↔ IsFormula sig.now copies f.now scope.old.items) }
     ensures same { OnOk result (scope.new.items ≡ scope.old.items) }
 {

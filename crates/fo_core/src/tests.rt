@@ -1,7 +1,8 @@
 ghost use Rattle.std.specs.Prelude.{◌≡◌, [], ◌∷◌, true, false, IfOk};
 
 use crate::{
-    Boxed, Formula, Names, Order, Purpose, Seq, Sig, Step, Symbol, System, Table, Term, Text, World,
+    Boxed, Formula, Names, Order, Purpose, Seq, Sig, Step, Symbol, System, Table, Term, Text,
+    World, is_name, is_reserved, is_word,
 };
 use std::alloc::{AllocError, Global};
 use std::test::Fail;
@@ -158,6 +159,7 @@ fn names_fit_or_not(rt: HostRuntime) -> Result<(), Fail> {
         sorts: Seq::new(alloc),
         symbols: Seq::new(alloc),
         steps: Seq::new(alloc),
+        definitions: Seq::new(alloc),
     };
     names.sorts.push(text(alloc, "node")?)?;
     names.symbols.push(text(alloc, "held")?)?;
@@ -169,6 +171,42 @@ fn names_fit_or_not(rt: HostRuntime) -> Result<(), Fail> {
     assert!(rt; names.fit(&sig, 0));
     names.steps.push(text(alloc, "2nd")?)?;
     assert!(rt; !names.fit(&sig, 1), "no word");
+    Ok(())
+}
+
+#[test]
+fn reserved_words_are_no_names(rt: HostRuntime) -> Result<(), Fail> {
+    assert!(rt; is_word(b"false"));
+    assert!(rt; is_reserved(b"false"));
+    assert!(rt; !is_name(b"false"));
+    assert!(rt; is_name(b"falsehood"));
+    assert!(rt; !is_name(b"2nd"));
+    Ok(())
+}
+
+/// The names `node`, `held` and `_next2` of the sort and the symbols of `signature`.
+fn named(alloc: Global) -> Result<Names, AllocError> {
+    let mut names = Names {
+        sorts: Seq::new(alloc),
+        symbols: Seq::new(alloc),
+        steps: Seq::new(alloc),
+        definitions: Seq::new(alloc),
+    };
+    names.sorts.push(text(alloc, "node")?)?;
+    names.symbols.push(text(alloc, "held")?)?;
+    names.symbols.push(text(alloc, "_next2")?)?;
+    Ok(names)
+}
+
+#[test]
+fn definitions_are_named_apart_from_symbols(rt: HostRuntime) -> Result<(), Fail> {
+    let alloc = rt.alloc();
+    let sig = signature(alloc)?;
+    let mut names = named(alloc)?;
+    names.definitions.push(text(alloc, "node")?)?;
+    assert!(rt; names.fit(&sig, 0));
+    names.definitions.push(text(alloc, "held")?)?;
+    assert!(rt; !names.fit(&sig, 0), "a symbol's name");
     Ok(())
 }
 

@@ -33,6 +33,13 @@ impl Text {
         self.text.as_str()
     }
 
+    /// The string, without taking memory.
+    pub fn into_string(self) -> String
+        ensures { string_bytes result ≡ self }
+    {
+        self.text
+    }
+
     /// A copy.
     pub fn copy(&self, alloc: Global) -> Result<Text, AllocError>
         ensures { IfOk result (λ t. t ≡ self.now) }

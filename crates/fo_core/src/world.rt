@@ -1,6 +1,6 @@
-ghost use Rattle.std.specs.Prelude.{◌≡◌, ◌↔◌, ◌<◌, ◌≤◌, ◌^◌, true, false, take, length, map, slice_index, IsTrue, IfOk};
+ghost use Rattle.std.specs.Prelude.{◌≡◌, ◌↔◌, ◌+◌, ◌<◌, ◌≤◌, ◌^◌, true, false, take, length, map, slice_index, IsTrue, IfOk};
 ghost use Rattle.std.specs.List.{All, filter};
-ghost use Rattle.fo_core.specs.Runs.{AreElements};
+ghost use Rattle.fo_core.specs.Runs.{AreElements, alone as alone_copy, pair as pair_of_copies};
 ghost use Rattle.fo_core.specs.Sorted.{HasSorts, IsSig};
 ghost use Rattle.fo_core.specs.Tables.{symbol_at, table_of, entry, tuples, arg_sizes, is_like, range_of, IsTable, AreTables, Fits};
 
@@ -36,6 +36,13 @@ impl Table {
         Ok(Table {
             values: self.values.copy(alloc)?,
         })
+    }
+
+    /// Whether the tables have the same values. It takes no memory.
+    pub fn same(&self, other: &Table) -> bool
+        ensures { IsTrue result ↔ (self.now ≡ other.now) }
+    {
+        self.values.as_slice() == other.values.as_slice()
     }
 }
 
@@ -99,6 +106,36 @@ fn are_tables(sizes: &Seq<u32>, symbols: &[Symbol], mutable: bool, tables: &[Tab
         }
     }
     at == tables.len()
+}
+
+/// Whether the lists of tables are the same.
+fn same_tables(a: &[Table], b: &[Table]) -> bool
+    ensures { IsTrue result ↔ (a.now ≡ b.now) }
+{
+    if a.len() != b.len() {
+        return false;
+    }
+    'each: for i in 0..a.len() {
+        if !a[i].same(&b[i]) {
+            return false;
+        }
+    }
+    true
+}
+
+/// Whether the lists of copies are the same.
+fn same_copies(a: &[Seq<Table>], b: &[Seq<Table>]) -> bool
+    ensures { IsTrue result ↔ (a.now ≡ b.now) }
+{
+    if a.len() != b.len() {
+        return false;
+    }
+    'each: for i in 0..a.len() {
+        if !same_tables(a[i].as_slice(), b[i].as_slice()) {
+            return false;
+        }
+    }
+    true
 }
 
 /// How many symbols of the kind come before the place.
@@ -184,5 +221,57 @@ impl World {
         let sorts = sig.symbols.at(symbol as usize).args.as_slice();
         let at = tuple_place(self.sizes.as_slice(), sorts, args);
         *table.values.at(at)
+    }
+
+    /// Whether the worlds are equal: the same sizes, the same tables of immutable symbols, and as
+    /// many copies with the same tables. It takes no memory.
+    pub fn same(&self, other: &World) -> bool
+        ensures { IsTrue result ↔ (self.now ≡ other.now) }
+    {
+        self.sizes.as_slice() == other.sizes.as_slice()
+            && same_tables(self.fixed.as_slice(), other.fixed.as_slice())
+            && same_copies(self.copies.as_slice(), other.copies.as_slice())
+    }
+
+    /// A copy of the world taken out of it: a world of one copy, with the same sizes and tables of
+    /// immutable symbols, in which the state is the same ([`copy_alone_keeps_meaning`]).
+    ///
+    /// The copy has to be there. Out of memory it answers `AllocError`; the world stays as it is.
+    ///
+    /// [`copy_alone_keeps_meaning`]: crate::copy_alone_keeps_meaning
+    pub fn alone(&self, alloc: Global, copy: u32) -> Result<World, AllocError>
+        requires { copy < length self.now.copies }
+        ensures { IfOk result (λ w. w ≡ alone_copy self.now copy) }
+    {
+        let mut copies = Seq::new(alloc);
+        copies.push(self.copies.at(copy as usize).copy(alloc)?)?;
+        Ok(World {
+            sizes: self.sizes.copy(alloc)?,
+            fixed: self.fixed.copy(alloc)?,
+            copies,
+        })
+    }
+
+    /// A copy of the world and the next one taken out of it: a world of two copies, with the same
+    /// sizes and tables of immutable symbols, in which the two states and the step are the same
+    /// ([`pair_of_copies_keeps_meaning`]).
+    ///
+    /// The next copy has to be there. Out of memory it answers `AllocError`; the world stays as it
+    /// is.
+    ///
+    /// [`pair_of_copies_keeps_meaning`]: crate::pair_of_copies_keeps_meaning
+    pub fn pair(&self, alloc: Global, copy: u32) -> Result<World, AllocError>
+        requires { copy + 1 < length self.now.copies }
+        ensures { IfOk result (λ w. w ≡ pair_of_copies self.now copy) }
+    {
+        let at = copy as usize;
+        let mut copies = Seq::new(alloc);
+        copies.push(self.copies.at(at).copy(alloc)?)?;
+        copies.push(self.copies.at(at + 1).copy(alloc)?)?;
+        Ok(World {
+            sizes: self.sizes.copy(alloc)?,
+            fixed: self.fixed.copy(alloc)?,
+            copies,
+        })
     }
 }
