@@ -37,6 +37,10 @@ module _ (sig : Sig) (form : SkolemForm) (numbers ranked : List ℕ) (is : IsSig
   solved : AreCounts S form.copies U
   solved = counts-solve S form.copies numbers rises (whole_sorts sig form is of)
 
+  -- there is a number for each sort
+  pub counted : (counts : List ℕ) → counts ≡ map cut U → length counts ≡ sig.sorts
+  counted counts e = ap length (uncut U counts few e) ∙ solved.one_each
+
   pub sorts-known : All (λ s. s < length U) ranked
   sorts-known = All-weaker (λ s. s < length numbers) (λ s. s < length U) (λ s lt. omega (arith, rises.one_each, solved.one_each)) ranked (ranked-within numbers ranked ranking)
 

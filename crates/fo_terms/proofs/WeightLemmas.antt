@@ -5,6 +5,7 @@ use Rattle.std.proofs.lemmas.Bool.{cases_lt}
 use Rattle.std.proofs.lemmas.List.Elements.{All-from_get_or, All-weaker}
 use Rattle.std.proofs.lemmas.Nat.{mul-le}
 use Rattle.fo_core.specs.declared.query.Query.{Query}
+use Rattle.fo_core.specs.declared.query.TheConstants.{MOST_WEIGHT}
 use Rattle.fo_core.specs.declared.signature.Sig.{Sig}
 use Rattle.fo_core.specs.declared.signature.Symbol.{Symbol}
 use Rattle.fo_core.specs.Skolems.{skolem_symbols_list, extended}
@@ -64,8 +65,8 @@ sum-weight : (xs : List ℕ) → added (λ x. x) xs ≤ added sort_weight xs
 sum-weight [] = omega arith
 sum-weight (x ∷ xs) = omega (arith, sum-weight xs)
 
--- a weight of at most 4,000,000 leaves few terms
-pub few_of_weight : (sig : Sig) (form : SkolemForm) (U : List ℕ) → form_weight sig form U ≤ 4000000 → AreFew U
+-- a weight within the limit leaves few terms
+pub few_of_weight : (sig : Sig) (form : SkolemForm) (U : List ℕ) → form_weight sig form U ≤ MOST_WEIGHT → AreFew U
 few_of_weight sig form U le =
     let sorts : added sort_weight U ≤ 4000000 =
     within (claim_nodes U form.claims + skolem_nodes U form.skolems) (added sort_weight U) (added (symbol_weight form.copies U) sig.symbols) le in

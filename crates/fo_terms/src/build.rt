@@ -1,4 +1,4 @@
-ghost use Rattle.std.specs.Prelude.{◌≡◌, ◌≢◌, ◌<◌, ◌^◌, ◌++◌, length, map, slice_index, IfOk, OnOk};
+ghost use Rattle.std.specs.Prelude.{◌≡◌, ◌≢◌, ◌<◌, ◌++◌, length, map, slice_index, IfOk, OnOk};
 ghost use Rattle.std.specs.List.{All, AllPairs};
 ghost use Rattle.fo_core.specs.SortGraph.{FunctionEdge, Rises};
 ghost use Rattle.fo_core.specs.Sorted.{IsSig};
@@ -10,7 +10,7 @@ ghost use Rattle.fo_terms.specs.Arranged.{IsArranged};
 ghost use Rattle.fo_terms.specs.Blocks.{AreFirsts, AreBases, function_numbers, arguments_at, copy_block, function_block, sort_block};
 ghost use Rattle.fo_core.specs.TermCounts.{term_counts};
 ghost use Rattle.fo_terms.specs.FormWeight.{AreFew};
-ghost use Rattle.fo_terms.specs.Universe.{IsUniverse};
+ghost use Rattle.fo_terms.specs.Universe.{IsU32, IsUniverse};
 
 use crate::counting::{copies_of, counts, tuples};
 use crate::ranking::ranked;
@@ -34,7 +34,7 @@ struct Sizes {
 fn firsts(alloc: Global, ranked: &[u32], counts: &[u64]) -> Result<Seq<u32>, AllocError>
     requires sorts { All (λ s. s < length counts.now) ranked.now }
     requires once { AllPairs (λ s t. s ≢ t) ranked.now }
-    requires few { added (slice_index counts.now) ranked.now < 2 ^ 32 }
+    requires few { IsU32 (added (slice_index counts.now) ranked.now) }
     ensures { IfOk result (λ firsts. AreFirsts ranked.now counts.now firsts) }
 {
     let mut firsts = vec![in alloc; 0u32; counts.len()]?;
@@ -85,7 +85,7 @@ fn push_copy(
 ) -> Result<(), AllocError>
     requires bases { AreBases sizes.now.firsts sizes.now.counts }
     requires sorts { All (λ s. s < length sizes.now.counts) symbol.now.args }
-    requires few { power sizes.now.counts symbol.now.args < 2 ^ 32 }
+    requires few { IsU32 (power sizes.now.counts symbol.now.args) }
     ensures { OnOk result (terms.new ≡ terms.old ++ copy_block sizes.now.firsts sizes.now.counts number symbol.now copy) }
 {
     let sorts = symbol.args.as_slice();
@@ -112,7 +112,7 @@ fn push_function(
 ) -> Result<(), AllocError>
     requires bases { AreBases sizes.now.firsts sizes.now.counts }
     requires sorts { All (λ s. s < length sizes.now.counts) symbol.now.args }
-    requires few { power sizes.now.counts symbol.now.args < 2 ^ 32 }
+    requires few { IsU32 (power sizes.now.counts symbol.now.args) }
     ensures { OnOk result (terms.new ≡ terms.old ++ function_block sizes.now.firsts sizes.now.counts copies number symbol.now) }
 {
     'each: for copy in 0..copies_of(symbol, copies) {
@@ -136,7 +136,7 @@ fn push_sort(
     requires bases { AreBases sizes.now.firsts sizes.now.counts }
     requires sorts { length sizes.now.counts ≡ sig.now.sorts }
     requires functions { functions.now ≡ function_numbers (whole sig.now form.now) sort }
-    requires few { All (λ k. power sizes.now.counts (symbol_at (whole sig.now form.now) k).args < 2 ^ 32) functions.now }
+    requires few { All (λ k. IsU32 (power sizes.now.counts (symbol_at (whole sig.now form.now) k).args)) functions.now }
     ensures { OnOk result (terms.new ≡ terms.old ++ sort_block sizes.now.firsts sizes.now.counts (whole sig.now form.now) form.now.copies sort) }
 {
     if functions.is_empty() {

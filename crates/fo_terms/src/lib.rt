@@ -3,7 +3,6 @@
 
 mod build;
 mod counting;
-mod places;
 mod ranking;
 mod symbols;
 mod terms;
@@ -13,7 +12,6 @@ mod weighing;
 
 pub use build::{universe, universe_from};
 pub use counting::{copies_of, counts};
-pub use places::Places;
 pub use ranking::rises;
 pub use symbols::symbol_of;
 pub use terms::{Ground, MOST_TERMS, Universe};

@@ -1,12 +1,8 @@
 ghost use Rattle.fo_core.specs.Sorted.{IsSig};
-ghost use Rattle.fo_norm.specs.Forms.{whole, IsForm};
-ghost use Rattle.fo_terms.specs.Arranged.{IsArranged};
-ghost use Rattle.fo_core.specs.TermCounts.{term_counts};
-ghost use Rattle.fo_terms.specs.FormWeight.{AreFew};
-ghost use Rattle.fo_terms.specs.Universe.{IsUniverse};
+ghost use Rattle.fo_norm.specs.Forms.{IsForm};
 
-use crate::{Places, Universe, counts, rises, universe, weight};
-use fo_core::{Boxed, Formula, Order, Query, Seq, Sig, Symbol, System, Term};
+use crate::{Universe, counts, rises, universe_from, weight};
+use fo_core::{Boxed, Formula, MOST_WEIGHT, Order, Query, Seq, Sig, Symbol, System, Term};
 use fo_norm::{SkolemForm, normal};
 use std::alloc::{AllocError, Global};
 use std::process::Abort;
@@ -142,28 +138,7 @@ fn the_weight_counts_nodes_sorts_and_symbols(rt: HostRuntime) -> Result<(), Fail
     Ok(())
 }
 
-/// Whether each term of the universe is found at its place.
-fn are_found(alloc: Global, sig: &Sig, form: &SkolemForm, u: &Universe) -> Result<bool, AllocError>
-    requires sig { IsSig sig.now }
-    requires form { IsForm sig.now form.now }
-    requires universe { IsUniverse (whole sig.now form.now) form.now.copies u.now.terms }
-    requires arranged { IsArranged (whole sig.now form.now) form.now.copies u.now }
-    requires few { AreFew (term_counts (whole sig.now form.now) form.now.copies) }
-{
-    let places = Places::new(alloc, sig, form, u)?.copy(alloc)?;
-    'each: for (p, term) in u.terms.as_slice().iter().enumerate() {
-        if term.symbol != u32::MAX {
-            let args = term.args.as_slice();
-            let place = places.place(sig, form, u, term.symbol, term.copy, args);
-            if place as usize != p {
-                return Ok(false);
-            }
-        }
-    }
-    Ok(true)
-}
-
-/// The universe of a form without claims, each of whose terms is found at its place.
+/// The universe of a form without claims.
 fn listed(
     rt: &impl Abort,
     alloc: Global,
@@ -182,11 +157,8 @@ fn listed(
     assert!(rt; copies >= 1);
     assert!(rt; rises(sig, &form, &order));
     let counts = counts(alloc, sig, &form, &order)?;
-    assert!(rt; weight(sig, &form, counts.as_slice()) <= 4000000);
-    let universe = universe(alloc, sig, &form, &order)?;
-    let universe = universe.copy(alloc)?;
-    assert!(rt; are_found(alloc, sig, &form, &universe)?);
-    Ok(universe)
+    assert!(rt; weight(sig, &form, counts.as_slice()) <= MOST_WEIGHT);
+    Ok(universe_from(alloc, sig, &form, &order, counts)?.copy(alloc)?)
 }
 
 #[test]

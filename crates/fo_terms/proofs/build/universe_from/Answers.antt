@@ -10,7 +10,7 @@ use Rattle.fo_terms.specs.Arranged.{IsArranged}
 use Rattle.fo_terms.specs.Blocks.{AreBases, AreFirsts, IsRanking, function_numbers, sort_block}
 use Rattle.fo_core.specs.TermCounts.{term_counts}
 use Rattle.fo_terms.specs.Universe.{IsUniverse}
-use Rattle.fo_terms.proofs.Built.{arranged-built, bases, sorts-known, sorts-once, sum-few, tuples-few, uncut, universe-built}
+use Rattle.fo_terms.proofs.Built.{arranged-built, bases, counted, sorts-known, sorts-once, sum-few, tuples-few, uncut, universe-built}
 use Rattle.fo_terms.proofs.RankLemmas.{ranked-within}
 use Rattle.fo_terms.proofs.build.universe_from.Goals as goal
 
@@ -58,6 +58,11 @@ push_sort-requires-clause-bases c =
     let ranking = subst (IsRanking c.args.order.now.numbers) (sym c.as_slice.ensures.value) c.in_ok-ranked.ensures in
     let at_first = subst (λ xs. AreFirsts ranked xs firsts) (c.as_slice-2.ensures ∙ exact) c.in_ok-firsts.ensures in
     subst (AreBases firsts) (sym exact) (bases c.args.sig.now c.args.form.now c.args.order.now.numbers ranked c.requires.sig c.requires.form c.requires.order ranking c.requires.few firsts at_first)
+
+pub push_sort-requires-clause-sorts : goal.push_sort-requires-clause-sorts
+push_sort-requires-clause-sorts c =
+    let ranking = subst (IsRanking c.args.order.now.numbers) (sym c.as_slice.ensures.value) c.in_ok-ranked.ensures in
+    counted c.args.sig.now c.args.form.now c.args.order.now.numbers c.as_slice.result.now c.requires.sig c.requires.form c.requires.order ranking c.requires.few c.args.counts c.requires.counts
 
 pub push_sort-requires-clause-few : goal.push_sort-requires-clause-few
 push_sort-requires-clause-few c =
