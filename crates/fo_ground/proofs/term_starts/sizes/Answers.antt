@@ -1,15 +1,14 @@
 use Rattle.std.proofs.Common.{◌≡◌, ◌+◌, ◌<◌, List, length, set, ap, ◌∙◌, arith, length-set}
 use Rattle.std.specs.Prelude.{slice_index}
 use Rattle.std.proofs.lemmas.List.{get_or_read}
-use Rattle.fo_core.specs.Skolems.{extended}
 use Rattle.fo_terms.specs.declared.terms.Ground.{Ground}
 use Rattle.fo_terms.specs.Universe.{no_ground, sort_at}
-use Rattle.fo_terms.proofs.PlaceSteps.{count-more, counted-all}
-use Rattle.fo_terms.proofs.places.sizes.Goals as goal
+use Rattle.fo_ground.proofs.StartSteps.{count-more, counted-all}
+use Rattle.fo_core.specs.TermCounts.{term_counts}
+use Rattle.fo_ground.proofs.term_starts.sizes.Goals as goal
 
 pub each-preserved : goal.each-preserved
 each-preserved c =
-    let S = extended c.args.sig.now c.args.form.now.skolems in
     let ts = c.args.u.now.terms in
     let sizes = c.each.sizes.items in
     let p = c.each.term-index in
@@ -24,10 +23,8 @@ each-preserved c =
       each = λ s known.
           ap (λ v. slice_index (set sizes c.term-item.result.sort (v + 1)) s) value
           ∙ ap (λ t. slice_index (set sizes t (slice_index sizes t + 1)) s) sort
-          ∙ count-more S c.args.form.now.copies c.args.u.now c.requires.universe c.requires.arranged p lt sizes c.each.invariant.len c.each.invariant.each s known;
+          ∙ count-more c.args.sig.now c.args.copies c.args.u.now c.requires.universe c.requires.arranged p lt sizes c.each.invariant.len c.each.invariant.each s known;
     }
 
 pub returns : goal.returns
-returns c =
-    let S = extended c.args.sig.now c.args.form.now.skolems in
-    c.from_vec.ensures ∙ counted-all S c.args.form.now.copies c.args.u.now c.requires.universe c.requires.arranged c.each.sizes.items c.each.term-index (omega (arith, ap length c.as_slice-term-items.ensures)) c.each.invariant.len c.each.invariant.each
+returns c = c.from_vec.ensures ∙ counted-all c.args.sig.now c.args.copies c.args.u.now c.requires.universe c.requires.arranged c.each.sizes.items c.each.term-index (omega (arith, ap length c.as_slice-term-items.ensures)) c.each.invariant.len c.each.invariant.each

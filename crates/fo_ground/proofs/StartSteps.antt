@@ -1,4 +1,4 @@
--- What the places of terms are reckoned from.
+-- How many terms each sort has, and where the applications of each function begin, term by term and symbol by symbol.
 use Rattle.std.proofs.Common.{◌≡◌, ℕ, Bool, true, false, cond, min, ◌+◌, ◌-◌, ◌<◌, ◌≤◌, ◌^◌, ◌⊎◌, inl, inr, List, [], ◌∷◌, ◌++◌, length, set, take, drop, refl, sym, ap, subst, ◌∙◌, arith}
 use Rattle.std.specs.List.{All, filter}
 use Rattle.std.specs.Prelude.{slice_index}
