@@ -17,9 +17,11 @@ fn no_variables_and_no_clauses_are_met(rt: HostRuntime) -> Result<(), Fail> {
         vars: 0,
         clauses: Seq::new(alloc),
     };
-    match solve(alloc, &cnf)? {
-        Answer::Sat(values) => assert!(rt; values.is_empty()),
-        Answer::Unsat(_) => assert!(rt; false),
+    for answer in [solve(alloc, &cnf)?, prop_plain::solve(alloc, &cnf)?] {
+        match answer {
+            Answer::Sat(values) => assert!(rt; values.is_empty()),
+            Answer::Unsat(_) => assert!(rt; false),
+        }
     }
     Ok(())
 }
@@ -31,11 +33,13 @@ fn an_empty_clause_is_refuted_by_itself(rt: HostRuntime) -> Result<(), Fail> {
     clauses.push(Clause::new(alloc))?;
     let cnf = Cnf { vars: 0, clauses };
     assert!(rt; cnf.is_well_formed());
-    match solve(alloc, &cnf)? {
-        Answer::Sat(_) => assert!(rt; false),
-        Answer::Unsat(refutation) => {
-            let last = refutation.clauses.as_slice().last().ok_or("no clause")?;
-            assert!(rt; last.is_empty());
+    for answer in [solve(alloc, &cnf)?, prop_plain::solve(alloc, &cnf)?] {
+        match answer {
+            Answer::Sat(_) => assert!(rt; false),
+            Answer::Unsat(refutation) => {
+                let last = refutation.clauses.as_slice().last().ok_or("no clause")?;
+                assert!(rt; last.is_empty());
+            }
         }
     }
     Ok(())
