@@ -9,7 +9,7 @@ use std::alloc::{AllocError, Global};
 /// Conflicts before the first restart, and how many more before each later one.
 const RESTART: u64 = 100;
 
-/// What the search came to.
+/// Where the search stopped.
 #[derive(Drop)]
 pub enum Event {
     /// Each variable has a value, and no conflict was seen.
@@ -20,7 +20,7 @@ pub enum Event {
     Lost,
 }
 
-/// What a look at a clause, of which one watched literal is false, came to.
+/// What a look at a clause found, of which one watched literal is false.
 enum Look {
     /// It is watched as before.
     Stay,

@@ -48,7 +48,7 @@ fn an_empty_clause_is_refuted_by_itself(rt: HostRuntime) -> Result<(), Fail> {
 /// Pairs of variables that have nothing to do with the two last ones, which can't be met: a search
 /// in order of variables would meet 3^30 values of the pairs first.
 #[test]
-fn a_contradiction_behind_thirty_pairs_is_found(rt: HostRuntime) -> Result<(), Fail> {
+fn a_contradiction_after_thirty_pairs_is_found(rt: HostRuntime) -> Result<(), Fail> {
     let alloc = rt.alloc();
     let mut clauses = Seq::new(alloc);
     for pair in 0..30u32 {

@@ -147,7 +147,7 @@ fn without_values(alloc: Global, vars: u32) -> Result<Vec<Option<bool>>, AllocEr
     Ok(values)
 }
 
-/// The items behind the first `n`.
+/// The items after the first `n`.
 fn without_first(mut clauses: Vec<Clause>, n: usize) -> Vec<Clause>
     requires { n ≤ length clauses.items }
     ensures { result.items ≡ drop n clauses.items }

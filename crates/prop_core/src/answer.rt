@@ -15,7 +15,7 @@ pub struct Refutation {
     pub clauses: Seq<Clause>,
 }
 
-/// What a search for values that meet a formula came to.
+/// What a search for values that meet a formula found.
 #[derive(Drop)]
 pub enum Answer {
     /// One value for each variable, which meet each clause.
