@@ -1,16 +1,16 @@
 //! Finders that are asked whether a property can fail at the start.
-use crate::formulas::{held, not, system};
+use crate::formulas::{differ, held, not_held, system};
 use fo_core::{
-    Finder, Finders, Formula, Found, MOST_WEIGHT, Purpose, Seq, System, Term, all_over, some_over,
+    Finder, Finders, Formula, Found, MOST_WEIGHT, Purpose, Query, Seq, System, all_over, some_over,
 };
-use fo_solve::{Engine, Engines, Recorded};
+use fo_solve::{Answered, Engine, Engines, Recorded};
 use pyv_strat::order;
 use std::alloc::{AllocError, Global};
 use std::process::Abort;
 use std::test::Fail;
 use up_claims::verify_query;
 
-/// The variables below a number are all different, and where it is asked the relation holds of each.
+/// The variables below `count` are all different, and where `all_held` the relation holds of each.
 fn apart(alloc: Global, count: u32, all_held: bool) -> Result<Seq<Formula>, AllocError> {
     let mut parts = Seq::new(alloc);
     'x: for x in 0..count {
@@ -18,23 +18,27 @@ fn apart(alloc: Global, count: u32, all_held: bool) -> Result<Seq<Formula>, Allo
             parts.push(held(alloc, x)?)?;
         }
         'y: for y in 0..x {
-            parts.push(not(alloc, Formula::Eq(Term::Var(x), Term::Var(y)))?)?;
+            parts.push(differ(alloc, x, y)?)?;
         }
     }
     Ok(parts)
 }
 
-/// A system whose property is that there are no `sorts` different elements, of which the relation
-/// holds where `all_held`; where `empty`, it holds of none at first.
-fn bounded(alloc: Global, empty: bool, sorts: &[u32], all_held: bool) -> Result<System, AllocError> {
+/// A system whose property is that there aren't as many different elements as `sorts` has members,
+/// where `all_held` such as the relation holds of. Where `empty`, it holds of none at first.
+fn bounded(
+    alloc: Global,
+    empty: bool,
+    sorts: &[u32],
+    all_held: bool,
+) -> Result<System, AllocError> {
     let mut inits = Seq::new(alloc);
     if empty {
-        inits.push(all_over(alloc, &[0], not(alloc, held(alloc, 0)?)?)?)?;
+        inits.push(all_over(alloc, &[0], not_held(alloc, 0)?)?)?;
     }
     let many = Formula::And(apart(alloc, sorts.len() as u32, all_held)?);
-    let mut safeties = Seq::new(alloc);
-    safeties.push(not(alloc, some_over(alloc, sorts, many)?)?)?;
-    system(alloc, Seq::new(alloc), inits, safeties)
+    let safety = Formula::not(alloc, some_over(alloc, sorts, many)?)?;
+    system(alloc, inits, safety)
 }
 
 /// The answer of a finder to the query whether the system's property fails at the start.
@@ -76,7 +80,13 @@ fn five_different_elements_are_found(rt: HostRuntime) -> Result<(), Fail> {
     let alloc = rt.alloc();
     let sys = bounded(alloc, false, &[0; 5], false)?;
     let found = answer(&rt, alloc, &mut Engine::new(MOST_WEIGHT), &sys)?;
-    assert!(rt; elements(&found) >= 5);
+    let query = Query {
+        copies: 1,
+        claims: Seq::new(alloc),
+    };
+    let answer = found;
+    let copy = Answered { query, answer }.copy(alloc)?;
+    assert!(rt; elements(&copy.answer) >= 5);
     Ok(())
 }
 

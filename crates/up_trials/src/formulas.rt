@@ -1,5 +1,5 @@
 //! Formulas and systems over one sort with one relation of one argument.
-use fo_core::{Boxed, Formula, Seq, Sig, Symbol, System, Term};
+use fo_core::{Formula, Seq, Sig, Symbol, System, Term};
 use std::alloc::{AllocError, Global};
 
 /// The relation at a variable.
@@ -9,26 +9,18 @@ pub fn held(alloc: Global, x: u32) -> Result<Formula, AllocError> {
     Ok(Formula::Rel(0, 0, args))
 }
 
-/// The formula's negation.
-pub fn not(alloc: Global, f: Formula) -> Result<Formula, AllocError> {
-    Ok(Formula::Not(Boxed::new(alloc, f)?))
+/// The negation of that.
+pub fn not_held(alloc: Global, x: u32) -> Result<Formula, AllocError> {
+    Formula::not(alloc, held(alloc, x)?)
 }
 
-/// Two formulas as a list.
-pub fn both(alloc: Global, f: Formula, g: Formula) -> Result<Seq<Formula>, AllocError> {
-    let mut parts = Seq::new(alloc);
-    parts.push(f)?;
-    parts.push(g)?;
-    Ok(parts)
+/// The two variables have different values.
+pub fn differ(alloc: Global, x: u32, y: u32) -> Result<Formula, AllocError> {
+    Formula::not(alloc, Formula::Eq(Term::Var(x), Term::Var(y)))
 }
 
-/// A system without transitions.
-pub fn system(
-    alloc: Global,
-    axioms: Seq<Formula>,
-    inits: Seq<Formula>,
-    safeties: Seq<Formula>,
-) -> Result<System, AllocError> {
+/// One sort with the relation.
+pub fn signature(alloc: Global) -> Result<Sig, AllocError> {
     let mut symbols = Seq::new(alloc);
     symbols.push(Symbol {
         relation: true,
@@ -36,9 +28,17 @@ pub fn system(
         args: Seq::from_vec([0].to_vec(alloc)?),
         result: 0,
     })?;
+    Ok(Sig { sorts: 1, symbols })
+}
+
+/// A system over it that begins with these formulas true, has no transitions, and is asked for this
+/// property.
+pub fn system(alloc: Global, inits: Seq<Formula>, safety: Formula) -> Result<System, AllocError> {
+    let mut safeties = Seq::new(alloc);
+    safeties.push(safety)?;
     Ok(System {
-        sig: Sig { sorts: 1, symbols },
-        axioms,
+        sig: signature(alloc)?,
+        axioms: Seq::new(alloc),
         inits,
         steps: Seq::new(alloc),
         safeties,

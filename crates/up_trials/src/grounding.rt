@@ -2,8 +2,8 @@
 ghost use Rattle.fo_core.specs.Sorted.{IsSig};
 ghost use Rattle.fo_norm.specs.Forms.{IsForm};
 
-use crate::formulas::{both, held, not, system};
-use fo_core::{Formula, MOST_WEIGHT, Order, Query, Seq, Sig, Term, World, all_over, some_over};
+use crate::formulas::{differ, held, not_held, signature};
+use fo_core::{Formula, MOST_WEIGHT, Order, Query, Seq, Sig, World, all_over, some_over};
 use fo_ground::{ground, world_of};
 use fo_norm::{SkolemForm, normal};
 use fo_terms::{counts, rises, universe, weight};
@@ -35,10 +35,12 @@ fn find(rt: &impl Abort, alloc: Global, sig: &Sig, form: &SkolemForm) -> Result<
     }
 }
 
-/// A world of one copy that meets the claims, if there is one.
-fn world(rt: &impl Abort, alloc: Global, claims: Seq<Formula>) -> Result<Option<World>, Fail> {
-    let sig = system(alloc, Seq::new(alloc), Seq::new(alloc), Seq::new(alloc))?.sig;
+/// A world of one copy that meets the claim, if there is one.
+fn world(rt: &impl Abort, alloc: Global, claim: Formula) -> Result<Option<World>, Fail> {
+    let sig = signature(alloc)?;
     assert!(rt; sig.is_well_sorted());
+    let mut claims = Seq::new(alloc);
+    claims.push(claim)?;
     let query = Query { copies: 1, claims };
     assert!(rt; query.is_well_sorted(alloc, &sig)?);
     let form = normal(alloc, &sig, &query)?;
@@ -64,14 +66,13 @@ fn without_symbols_there_is_one_element(rt: HostRuntime) -> Result<(), Fail> {
 }
 
 #[test]
-fn none_is_held_by_two_where_none_is_held(rt: HostRuntime) -> Result<(), Fail> {
+fn two_are_not_held_where_none_is(rt: HostRuntime) -> Result<(), Fail> {
     let alloc = rt.alloc();
-    let none = all_over(alloc, &[0], not(alloc, held(alloc, 0)?)?)?;
-    let held_both = Formula::And(both(alloc, held(alloc, 0)?, held(alloc, 1)?)?);
-    let apart = not(alloc, Formula::Eq(Term::Var(0), Term::Var(1)))?;
-    let two = Formula::And(both(alloc, held_both, apart)?);
-    let two = some_over(alloc, &[0, 0], two)?;
-    assert!(rt; world(&rt, alloc, both(alloc, none, two)?)?.is_none());
+    let none = all_over(alloc, &[0], not_held(alloc, 0)?)?;
+    let held_both = Formula::both(alloc, held(alloc, 0)?, held(alloc, 1)?)?;
+    let two = Formula::both(alloc, held_both, differ(alloc, 0, 1)?)?;
+    let claim = Formula::both(alloc, none, some_over(alloc, &[0, 0], two)?)?;
+    assert!(rt; world(&rt, alloc, claim)?.is_none());
     Ok(())
 }
 
@@ -79,8 +80,9 @@ fn none_is_held_by_two_where_none_is_held(rt: HostRuntime) -> Result<(), Fail> {
 fn one_held_and_one_not_are_two_elements(rt: HostRuntime) -> Result<(), Fail> {
     let alloc = rt.alloc();
     let some = some_over(alloc, &[0], held(alloc, 0)?)?;
-    let not_all = some_over(alloc, &[0], not(alloc, held(alloc, 0)?)?)?;
-    let world = world(&rt, alloc, both(alloc, some, not_all)?)?.ok_or("no world")?;
+    let not_all = some_over(alloc, &[0], not_held(alloc, 0)?)?;
+    let claim = Formula::both(alloc, some, not_all)?;
+    let world = world(&rt, alloc, claim)?.ok_or("no world")?;
     assert!(rt; world.sizes.as_slice() == [2].as_slice());
     Ok(())
 }
