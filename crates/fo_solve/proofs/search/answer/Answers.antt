@@ -14,7 +14,7 @@ pub returns : goal.returns
 returns c =
     let form = c.in_ok-form in
     let same = weight-query c.args.sys.now.sig c.args.q.now form.form form.ensures.copies form.ensures.skolems form.ensures.nodes in
-    let light = subst (λ n. n ≤ c.args.limit) (c.weight.ensures.uncut _ c.in_ok-counts.ensures.counts ∙ same) (omega (arith, c.if-weight-limit.false)) in
+    let light = subst (λ n. n ≤ c.args.limit) (c.weight-weight.ensures.uncut _ (c.as_slice.ensures ∙ c.in_ok-counts.ensures.counts) ∙ same) (omega (arith, c.if-weight-limit.false)) in
     elim c.match-branch-4.branch [
       | in-Some w ↦ rw w.result-is (light, (form.ensures.same_worlds _).1 (rw w.in-Some.is at c.in_ok-world.ensures))
       | in-None w ↦ rw w.result-is (light, λ v met. (rw w.in-None.is at c.in_ok-world.ensures) v ((form.ensures.same_worlds v).0 met))

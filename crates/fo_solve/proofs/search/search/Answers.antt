@@ -9,7 +9,8 @@ universe_from-requires-clause-few c =
 pub world_of-requires-clause-met : goal.world_of-requires-clause-met
 world_of-requires-clause-met c =
     let a = rw c.in-Sat.is at c.in_ok-values.ensures.answer in
-    c.in_ok-grounded.ensures.grounded.sound _ (rw c.as_slice.ensures a.1)
+    let met = c.in_ok-grounded.ensures.grounded.sound _ a.1 in
+    rw c.as_slice.ensures met
 
 -- a world would give values, and the refutation leaves none
 pub returns : goal.returns
