@@ -1,4 +1,4 @@
-use Rattle.fo_ground.proofs.tests.find.Goals as goal
+use Rattle.up_trials.proofs.grounding.find.Goals as goal
 
 pub world_of-requires-clause-met : goal.world_of-requires-clause-met
 world_of-requires-clause-met g c =

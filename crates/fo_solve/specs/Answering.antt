@@ -6,23 +6,23 @@ use Rattle.fo_core.specs.declared.query.Query.{Query}
 use Rattle.fo_core.specs.declared.signature.Sig.{Sig}
 use Rattle.fo_core.specs.declared.system.System.{System}
 use Rattle.fo_core.specs.Finds.{IsAnswer}
-use Rattle.fo_solve.specs.declared.recorded.Kept.{Kept}
+use Rattle.fo_solve.specs.declared.recorded.Answered.{Answered}
 
--- what contracts see of it: its system and its limit, the queries that it keeps with their answers, and how
--- many of these answers it has handed out
+-- what contracts see of such a finder: its system and its limit, the queries that it keeps with
+-- their answers, and how many of these answers it has handed out
 pub record Record : Type 0 where
   pub sys : System
   pub limit : ℕ
-  pub kept : List Kept
+  pub kept : List Answered
   pub given : ℕ
 
 -- each is the answer to its query by a finder with this limit
-abbrev pub AreAnswers : Sig → ℕ → List Kept → Type 0
-AreAnswers sig limit kept = All (λ (k : Kept). IsAnswer sig k.query limit k.answer) kept
+abbrev pub AreAnswers : Sig → ℕ → List Answered → Type 0
+AreAnswers sig limit kept = All (λ (a : Answered). IsAnswer sig a.query limit a.answer) kept
 
--- one more query is kept with its answer, behind the others
+-- one more query is kept with its answer, after the others
 abbrev pub with_answer : Record → Query → Found → Record
-with_answer r q answer = record { sys = r.sys; limit = r.limit; kept = r.kept ++ record { query = q; answer = answer } ∷ []; given = r.given }
+with_answer r q answer = record r { kept = r.kept ++ record { query = q; answer = answer } ∷ [] }
 
 -- one more query is kept with an answer to it
 abbrev pub KeepsOne : Record → Query → Record → Type 0
@@ -32,8 +32,8 @@ KeepsOne r q s = (answer : Found) × IsAnswer r.sys.sig q r.limit answer × (s �
 pub record IsNext (r : Record) (sys : System) (q : Query) (answer : Found) : Type 0 where
   pub left : r.given < length r.kept
   pub system : sys ≡ r.sys
-  pub next : (k : Kept) → slice_index_or r.kept r.given k ≡ record { query = q; answer = answer }
+  pub next : (a : Answered) → slice_index_or r.kept r.given a ≡ record { query = q; answer = answer }
 
 -- one more answer is handed out
 abbrev pub with_one_given : Record → Record
-with_one_given r = record { sys = r.sys; limit = r.limit; kept = r.kept; given = r.given + 1 }
+with_one_given r = record r { given = r.given + 1 }
