@@ -1,4 +1,6 @@
-use crate::{TextFault, world_read, world_text};
+ghost use Rattle.std.specs.Prelude.{◌≤◌};
+
+use crate::{Halt, TextFault, number, world_read, world_text};
 use fo_core::{Names, Seq, Sig, Symbol, Table, Text, World};
 use std::alloc::{AllocError, Global};
 use std::process::Abort;
@@ -13,6 +15,7 @@ fn no_names(alloc: Global) -> Names {
         sorts: Seq::new(alloc),
         symbols: Seq::new(alloc),
         steps: Seq::new(alloc),
+        definitions: Seq::new(alloc),
     }
 }
 
@@ -216,5 +219,36 @@ fn faults_are_the_first(rt: HostRuntime) -> Result<(), Fail> {
             "{text}"
         );
     }
+    Ok(())
+}
+
+/// The number that is read, up to a space.
+fn value(bytes: &[u8], least: u64, most: u64) -> Option<u64>
+    requires { least ≤ most }
+{
+    match number(bytes, least, most, b' ') {
+        Ok((number, _)) => Some(number),
+        Err(_) => None,
+    }
+}
+
+/// How many bytes are left where no number goes on.
+fn left(bytes: &[u8], least: u64, most: u64) -> Option<usize>
+    requires { least ≤ most }
+{
+    match number(bytes, least, most, b' ') {
+        Err(Halt::Fault(left)) => Some(left),
+        _ => None,
+    }
+}
+
+#[test]
+fn a_number_may_begin_below_the_least(rt: HostRuntime) -> Result<(), Fail> {
+    assert_eq!(rt; value(b"10 x", 2, 65), Some(10));
+    assert_eq!(rt; value(b"0 ", 0, 65), Some(0));
+    assert_eq!(rt; left(b"1 x", 2, 65), Some(2));
+    assert_eq!(rt; left(b"66 ", 2, 65), Some(2));
+    assert_eq!(rt; left(b"1 ", 2, 9), Some(2));
+    assert_eq!(rt; left(b"01 ", 0, 65), Some(2));
     Ok(())
 }

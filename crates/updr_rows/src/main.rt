@@ -35,6 +35,17 @@ impl Report {
         Ok(())
     }
 
+    /// Prints why a text or a case isn't complete.
+    fn fail<R: Print + AllocGlobal>(
+        &mut self,
+        rt: &R,
+        name: &str,
+        error: &anyhow::Error,
+    ) -> anyhow::Result<()> {
+        let line = format!(in rt.alloc(); "{error}")?;
+        self.differ(rt, name, line.as_str())
+    }
+
     /// Runs a case, and prints its line.
     fn run<R: Print + Files + AllocGlobal>(
         &mut self,
@@ -49,10 +60,7 @@ impl Report {
         match run_case(rt, case, texts) {
             Ok(None) => println!(rt; "{name}: as wanted")?,
             Ok(Some(difference)) => self.differ(rt, name, difference.as_str())?,
-            Err(error) => {
-                let line = format!(in rt.alloc(); "{error}")?;
-                self.differ(rt, name, line.as_str())?;
-            }
+            Err(error) => self.fail(rt, name, &error)?,
         }
         Ok(())
     }
@@ -69,7 +77,11 @@ impl Report {
         let mut texts = Texts::new(rt.alloc());
         for item in read_items(rt.alloc(), path, text.as_str())? {
             match item {
-                Item::Text(text) => texts.define(rt, text)?,
+                Item::Text(text) => {
+                    if let Err(error) = texts.define(rt, text) {
+                        self.fail(rt, path, &error)?;
+                    }
+                }
                 Item::Case(case) => self.run(rt, &case, &mut texts)?,
                 Item::Fault(place, fault) => self.differ(rt, place.as_str(), fault.as_str())?,
             }
