@@ -319,7 +319,7 @@ module _ (e : Entries) (limit : ℕ) (are : AreEntries e) (values : List ℕ) (m
   own_sizes = e.sizes.now
 
   abbrev tried_value : ℕ → Query
-  tried_value v = trial own_sig own_query sizes (values ++ v ∷ [])
+  tried_value v = trial own_sig own_query own_sizes (values ++ v ∷ [])
 
   next : length values < length (cells own_sig own_sizes own_query.copies)
   next = some-entry e are values more
@@ -329,7 +329,7 @@ module _ (e : Entries) (limit : ℕ) (are : AreEntries e) (values : List ℕ) (m
   can-ask-value v in_range = record {
     sig = are.can.sig;
     query = value-is-query own_sig own_query limit are.can.sig are.can.query own_sizes values are.sorts next settled v in_range;
-    rises = trial_rises own_sig own_query sizes (values ++ v ∷ []) e.search.order.now.numbers are.can.rises;
+    rises = trial_rises own_sig own_query own_sizes (values ++ v ∷ []) e.search.order.now.numbers are.can.rises;
   }
 
   -- some world has one of the values that are tried
