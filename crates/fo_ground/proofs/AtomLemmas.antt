@@ -1,6 +1,5 @@
 -- The variable of an atom and the literal of a literal mean its instance.
 use Rattle.std.proofs.Common.{◌≡◌, ℕ, Bool, true, false, List, map, refl, sym, subst, ◌∙◌, true≢false}
-use Rattle.fo_core.specs.declared.signature.Sig.{Sig}
 use Rattle.fo_core.specs.declared.term.Term.{Term}
 use Rattle.fo_core.specs.declared.formula.Formula.{Formula, Rel, Eq}
 use Rattle.fo_core.specs.declared.formula.Formula.TheVariants as F

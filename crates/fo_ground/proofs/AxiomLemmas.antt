@@ -7,7 +7,6 @@ use Rattle.std.proofs.lemmas.List.Elements.{All-nil, All-cons, All-push}
 use Rattle.fo_core.specs.declared.formula.Formula.{Formula}
 use Rattle.prop_core.specs.declared.lit.Lit.{Lit}
 use Rattle.prop_core.specs.Formula.{MeetsClause, IsWithin, AreWithin}
-use Rattle.fo_core.specs.declared.signature.Sig.{Sig}
 use Rattle.fo_terms.specs.declared.terms.Universe.{Universe}
 use Rattle.fo_ground.specs.declared.layout.Layout.{Layout}
 use Rattle.fo_ground.specs.Emits.{Agrees, Adds, rule, implied}

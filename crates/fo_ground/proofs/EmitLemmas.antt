@@ -8,7 +8,6 @@ use Rattle.std.proofs.lemmas.List.Elements.{All-nil, All-cons, All-push, AllZip-
 use Rattle.std.proofs.lemmas.List.Quantifiers.{Any-push}
 use Rattle.std.proofs.lemmas.List.{take_all}
 use Rattle.std.proofs.Math.Seq.{take-suc, take-append_seam}
-use Rattle.fo_core.specs.declared.signature.Sig.{Sig}
 use Rattle.fo_core.specs.declared.formula.Formula.{Formula, True, False}
 use Rattle.fo_core.specs.declared.formula.Formula.TheVariants as F
 use Rattle.fo_core.proofs.Rows.{sorted-And, sorted-Or, sorted-All}

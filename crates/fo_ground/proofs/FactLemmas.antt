@@ -5,7 +5,6 @@ use Rattle.std.specs.Prelude.{slice_index}
 use Rattle.std.proofs.Math.ListN.{drop_of_length-le}
 use Rattle.std.proofs.lemmas.List.{get_or-map, length-map}
 use Rattle.std.proofs.lemmas.List.Elements.{All-nil, All-cons, All-drop, AllZip-get_or, length_all_zip}
-use Rattle.fo_core.specs.declared.signature.Sig.{Sig}
 use Rattle.fo_core.specs.Tables.{symbol_at, tuples, place}
 use Rattle.fo_core.specs.Sorted.{IsSymbol}
 use Rattle.fo_core.proofs.TableLemmas.{tuples-positive}

@@ -10,13 +10,12 @@ use Rattle.fo_core.specs.declared.world.World.{World}
 use Rattle.fo_core.specs.Sorted.{IsSig, IsSymbol, IsFormula}
 use Rattle.fo_core.specs.Tables.{no_symbol, symbol_at}
 use Rattle.fo_norm.specs.declared.form.SkolemForm.{SkolemForm}
-use Rattle.fo_norm.specs.Forms.{whole, IsForm, MeetsForm}
+use Rattle.fo_norm.specs.Forms.{whole, MeetsForm}
 use Rattle.prop_core.specs.declared.lit.Lit.{Lit}
 use Rattle.prop_core.specs.Formula.{MeetsClause, MeetsAll, AreWithin}
 use Rattle.fo_terms.specs.declared.terms.Universe.{Universe}
-use Rattle.fo_terms.specs.Arranged.{IsArranged}
 use Rattle.fo_core.specs.TermCounts.{term_counts}
-use Rattle.fo_terms.specs.FormWeight.{AreFew, form_weight}
+use Rattle.fo_terms.specs.FormWeight.{AreFew}
 use Rattle.fo_terms.specs.Universe.{AreOf, IsTermOf, IsUniverse}
 use Rattle.fo_terms.proofs.WeightLemmas.{few_of_weight}
 use Rattle.fo_ground.specs.declared.grounded.Atom.{Atom}

@@ -1,6 +1,5 @@
 -- The place of an application, from the places of its arguments.
 use Rattle.std.proofs.Common.{◌≡◌, ℕ, false, ◌<◌, List, ◌∷◌, length, get_or, map, refl, ap, ◌∙◌}
-use Rattle.fo_core.specs.declared.signature.Sig.{Sig}
 use Rattle.fo_core.specs.declared.term.Term.{Term, Row_of-Term, end_of-Term, more_of-Term, items-the_row-Term, items_hidden-the_row-Term-0}
 use Rattle.fo_core.specs.declared.term.Term.TheVariants.{App}
 use Rattle.fo_core.specs.Tables.{symbol_at}

@@ -4,7 +4,6 @@ use Rattle.std.proofs.lemmas.List.{get_or_read}
 use Rattle.fo_terms.specs.declared.terms.Ground.{Ground}
 use Rattle.fo_terms.specs.Universe.{no_ground, sort_at}
 use Rattle.fo_ground.proofs.StartSteps.{count-more, counted-all}
-use Rattle.fo_core.specs.TermCounts.{term_counts}
 use Rattle.fo_ground.proofs.term_starts.sizes.Goals as goal
 
 pub each-preserved : goal.each-preserved
