@@ -23,7 +23,8 @@ pub fn least_where_settled()
     ensures { (sig : Sig) (q : Query) (w : World) → IsSig sig → IsQuery sig q → Fits sig w →
         length w.copies ≡ q.copies →
         IsLeast sig q w ↔
-        (HasWorld sig q × AreNextSizes sig q w.sizes × AreNextValues sig q w.sizes (world_values w)) }
+        (HasWorld sig q × AreNextSizes sig q w.sizes ×
+        AreNextValues sig q w.sizes (world_values w)) }
 {}
 
 /// A search asks queries that the least world determines: each that it asks stands in the list of

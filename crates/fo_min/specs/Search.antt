@@ -41,8 +41,8 @@ abbrev pub range_at : Sig → Query → List ℕ → ℕ → ℕ
 range_at sig q sizes k =
     range_of sizes (symbol_at sig (slice_index_or (cells sig sizes q.copies) k no_cell).symbol)
 
--- a world that meets the query, or that there is none, where the query is light; or its weight, where
--- this is above the limit
+-- a world that meets the query, or that there is none, where the query is light; or its weight,
+-- where this is above the limit
 abbrev pub IsQueryAnswer : Sig → ℕ → Query → Answer → Type 0
 IsQueryAnswer sig limit p (Answers.Met w) = MeetsQuery sig p w × IsLight sig limit p
 IsQueryAnswer sig limit p Answers.Nothing = HasNoWorld sig p × IsLight sig limit p
@@ -110,7 +110,8 @@ module _ (s : Search) (limit : ℕ) where
   -- all values are settled
   abbrev pub AreValuesFound : List ℕ → Numbers → Type 0
   AreValuesFound sizes (All_of.Found values) =
-      AreSettled sizes values × (length values ≡ length (cells (sig_of s) sizes (query_of s).copies))
+      AreSettled sizes values ×
+      (length values ≡ length (cells (sig_of s) sizes (query_of s).copies))
   AreValuesFound sizes (All_of.Over x) = IsAbove x
 
   -- the least world or why there is none

@@ -341,8 +341,9 @@ impl<'a> Entries<'a> {
 }
 
 /// Looks for the least of the worlds that meet the query: first by how many elements the sorts
-/// have, sort by sort, and then by the values of the tables, in the order in which finders of finite
-/// models enumerate them (Jian Zhang and Hantao Zhang, "SEM: a System for Enumerating Models", 1995).
+/// have, sort by sort, and then by the values of the tables, in the order in which finders of
+/// finite models enumerate them (Jian Zhang and Hantao Zhang, "SEM: a System for Enumerating
+/// Models", 1995).
 ///
 /// Where some world meets the query, it asks which size each sort can have, from 1 on, and then
 /// which value each table entry can have, from 0 on, and settles each before it asks for the next

@@ -36,8 +36,8 @@ impl Unrolled {
 /// Looks for a violating run of at most `steps` steps, by bounded model checking: of no step, of
 /// one step, and so on (Armin Biere, Alessandro Cimatti, Edmund Clarke and Yunshan Zhu, "Symbolic
 /// Model Checking without BDDs", 1999). Of the runs of fewest steps it gives the one that comes
-/// first by how many elements the sorts have, and then by the values of the tables. Where a query of
-/// the search is above the finder's limit, it gives that query and its weight.
+/// first by how many elements the sorts have, and then by the values of the tables. Where a query
+/// of the search is above the finder's limit, it gives that query and its weight.
 ///
 /// It asks for a well-sorted system ([`System::is_well_sorted`]), for an order that rises along
 /// each edge of the system's sort graph for inference, and for fewer than 2^32 - 1 steps. Where a
