@@ -1,5 +1,5 @@
--- Of two queries that are asked in the search for one least world, with those before them, the lists
--- are the same or one begins the other.
+-- Of the lists of two queries that a search for a least world asks, each with those asked before it,
+-- one begins the other.
 use Rattle.std.proofs.Common.{◌≡◌, ℕ, true, ◌⊎◌, inl, inr, ◌+◌, ◌<◌, List, [], ◌∷◌, ◌++◌, length, refl, sym, ap, subst, ◌∙◌, arith}
 use Rattle.std.proofs.lemmas.Bool.{cases_order}
 use Rattle.std.proofs.lemmas.List.{append_assoc, append-nil, take_all}
@@ -13,8 +13,8 @@ use Rattle.fo_least.proofs.Beginnings.{Leads, leads-behind, leads-front, leads-r
 use Rattle.fo_least.proofs.Determined.{sizes-begin, values-begin, leads-size, leads-value}
 
 module _ {X : Type 0} where
-  -- one list and one element behind it, the same as others or standing at the front of theirs, or the
-  -- others at the front of the one's
+  -- of two lists, each with the element after it: they are the same, or one with its element begins the
+  -- other list
   abbrev pub InTurn : List X → X → List X → X → Type 0
   InTurn before x others y = ((before ≡ others) × (x ≡ y)) ⊎ (Leads before x others ⊎ Leads others y before)
 
@@ -23,7 +23,7 @@ module _ {X : Type 0} where
   other-way before x others y (inr (inl leads)) = inr (inr leads)
   other-way before x others y (inr (inr leads)) = inr (inl leads)
 
-  -- the n-th of a range of elements, and the m-th, behind the same ones
+  -- the n-th of a range of elements, and the m-th, after the same ones
   pub turns-of-range : (f : ℕ → X) (front : List X) (trials : ℕ → List X) → ((k m : ℕ) → k < m → Leads (trials k) (f k) (trials m)) →
       (n m : ℕ) → InTurn (front ++ trials n) (f n) (front ++ trials m) (f m)
   turns-of-range f front trials each n m = by_order (cases_order n m)

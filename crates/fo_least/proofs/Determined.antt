@@ -130,7 +130,7 @@ module _ (sig : Sig) (q : Query) where
             subst (λ vs. Leads (value_trials sig q sizes values v) tried_value (value_trials sig q sizes vs (tried sig q kind (slice_index all (length values))))) begin
             (leads-range (λ u. trial sig q sizes (values ++ u ∷ [])) v (tried sig q kind (slice_index all (length values))) among)
 
--- each query that is asked stands among those of the least world, behind those asked before it
+-- each query that is asked stands among those of the least world, after those asked before it
 pub asked_leads : (sig : Sig) (q : Query) (before : List Query) (p : Query) (w : World) → IsSig sig → IsQuery sig q → IsAsked sig q before p → IsLeast sig q w → (after : List Query) × (before ++ p ∷ after ≡ least_queries sig q w)
 asked_leads sig q before p w is sorted asked least = at before p asked
   where

@@ -20,8 +20,8 @@ least-number P n p none = below (suc n) n (omega arith) p
     below zero k lt h = absurd (omega arith)
     below (suc b) k lt h = none k h (λ j less g. below b j (omega arith) g)
 
--- a list comes before all that have a property, if its first number is the least of theirs and the
--- others come before those behind this number
+-- a list comes before all that have a property, if its first number is the least of theirs, and its
+-- rest comes before the rest of each that begins with this number
 before-all : (n : ℕ) (P : List ℕ → Type 0) (y : ℕ) (ys : List ℕ) →
     ((k : ℕ) → k < y → ¬ ((zs : List ℕ) × (length zs ≡ n) × P (k ∷ zs))) →
     ((zs : List ℕ) → length zs ≡ n → P (y ∷ zs) → ComesFirst ys zs) →

@@ -11,10 +11,12 @@ ghost use Rattle.fo_min.specs.Found.{IsExcess, IsFoundLeast};
 
 /// At most one query of a search is the first above the limit.
 pub fn one_excess()
-    ensures { (sig : Sig) (q : Query) (limit : ℕ) (x y : Excess) → IsExcess sig q limit x → IsExcess sig q limit y → x ≡ y }
+    ensures { (sig : Sig) (q : Query) (limit : ℕ) (x y : Excess) →
+        IsExcess sig q limit x → IsExcess sig q limit y → x ≡ y }
 {}
 
 /// A search for the least world has at most one answer.
 pub fn one_answer_of_least()
-    ensures { (sig : Sig) (q : Query) (limit : ℕ) (a b : Least) → IsSig sig → IsQuery sig q → IsFoundLeast sig q limit a → IsFoundLeast sig q limit b → a ≡ b }
+    ensures { (sig : Sig) (q : Query) (limit : ℕ) (a b : Least) → IsSig sig → IsQuery sig q →
+        IsFoundLeast sig q limit a → IsFoundLeast sig q limit b → a ≡ b }
 {}

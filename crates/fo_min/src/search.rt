@@ -2,7 +2,11 @@ ghost use Rattle.std.specs.Prelude.{true, false, ◌≡◌, ◌<◌, ◌++◌, �
 ghost use Rattle.fo_core.specs.Finds.{CanSearch, IsLight};
 ghost use Rattle.fo_core.specs.Queries.{MeetsQuery};
 ghost use Rattle.fo_min.specs.Found.{IsFoundLeast};
-ghost use Rattle.fo_min.specs.Search.{IsSearch, AreEntries, AreSettled, IsQueryAnswer, IsSizeAnswer, IsValueAnswer, HasSizes, IsSizeFound, AreSizesFound, IsValueFound, AreValuesFound, sorts_of, range_next, is_relation_next};
+ghost use Rattle.fo_min.specs.Search.{IsSearch, sig_of, query_of, sorts_of, HasSizes, AreSettled};
+ghost use Rattle.fo_min.specs.Search.{IsQueryAnswer, IsSizeAnswer, IsSizeFound, AreSizesFound};
+ghost use Rattle.fo_min.specs.Search.{AreValuesFound, IsSearchAnswer, AreEntries, range_next};
+ghost use Rattle.fo_min.specs.Search.{is_relation_next, AreValuesSettled, IsValueAnswer};
+ghost use Rattle.fo_min.specs.Search.{IsValueFound, AreEntriesFound};
 
 use crate::building::{size_trial, value_trial};
 use crate::found::{Excess, Least};
@@ -144,8 +148,8 @@ impl<'a> Search<'a> {
         world: World,
     ) -> Result<Numbers, AllocError>
         requires search { IsSearch self.now }
-        requires world { MeetsQuery self.now.sys.now.sig self.now.query.now world }
-        requires light { IsLight self.now.sys.now.sig (F.limit f.old) self.now.query.now }
+        requires world { MeetsQuery (sig_of self.now) (query_of self.now) world }
+        requires light { IsLight (sig_of self.now) (F.limit f.old) (query_of self.now) }
         ensures limit { F.limit f.new ≡ F.limit f.old }
         ensures found { IfOk result (AreSizesFound self.now (F.limit f.old)) }
     {
@@ -194,10 +198,10 @@ impl<'a> Search<'a> {
         world: World,
     ) -> Result<Least, AllocError>
         requires search { IsSearch self.now }
-        requires world { MeetsQuery self.now.sys.now.sig self.now.query.now world }
-        requires light { IsLight self.now.sys.now.sig (F.limit f.old) self.now.query.now }
+        requires world { MeetsQuery (sig_of self.now) (query_of self.now) world }
+        requires light { IsLight (sig_of self.now) (F.limit f.old) (query_of self.now) }
         ensures limit { F.limit f.new ≡ F.limit f.old }
-        ensures found { IfOk result (IsFoundLeast self.now.sys.now.sig self.now.query.now (F.limit f.old)) }
+        ensures found { IfOk result (IsSearchAnswer self.now (F.limit f.old)) }
     {
         let sizes = match self.least_sizes(alloc, f, world)? {
             Numbers::Found(sizes) => sizes,
@@ -229,7 +233,7 @@ impl<'a> Entries<'a> {
     ) -> Result<Answer, AllocError>
         requires entries { AreEntries self.now }
         requires more { length values.now < length self.now.cells.now }
-        requires settled { AreSettled self.now.search (F.limit f.old) self.now.sizes.now values.now }
+        requires settled { AreValuesSettled self.now (F.limit f.old) values.now }
         requires in_range { v < range_next self.now values.now }
         ensures limit { F.limit f.new ≡ F.limit f.old }
         ensures answer { IfOk result (IsValueAnswer self.now (F.limit f.old) values.now v) }
@@ -257,7 +261,7 @@ impl<'a> Entries<'a> {
     ) -> Result<NextValue, AllocError>
         requires entries { AreEntries self.now }
         requires more { length values.now < length self.now.cells.now }
-        requires settled { AreSettled self.now.search (F.limit f.old) self.now.sizes.now values.now }
+        requires settled { AreValuesSettled self.now (F.limit f.old) values.now }
         requires relation { is_relation_next self.now values.now ≡ true }
         ensures limit { F.limit f.new ≡ F.limit f.old }
         ensures found { IfOk result (IsValueFound self.now (F.limit f.old) values.now) }
@@ -269,8 +273,8 @@ impl<'a> Entries<'a> {
         }
     }
 
-    /// Looks for the next value, of a function: the least element that it is in some world. Its sort
-    /// has `size` elements.
+    /// Looks for the next value, of a function: the least element that it is in some world. Its
+    /// sort has `size` elements.
     fn next_element<F: Finder>(
         &self,
         alloc: Global,
@@ -280,7 +284,7 @@ impl<'a> Entries<'a> {
     ) -> Result<NextValue, AllocError>
         requires entries { AreEntries self.now }
         requires more { length values.now < length self.now.cells.now }
-        requires settled { AreSettled self.now.search (F.limit f.old) self.now.sizes.now values.now }
+        requires settled { AreValuesSettled self.now (F.limit f.old) values.now }
         requires function { is_relation_next self.now values.now ≡ false }
         requires size { size ≡ range_next self.now values.now }
         ensures limit { F.limit f.new ≡ F.limit f.old }
@@ -305,7 +309,7 @@ impl<'a> Entries<'a> {
     ) -> Result<NextValue, AllocError>
         requires entries { AreEntries self.now }
         requires more { length values.now < length self.now.cells.now }
-        requires settled { AreSettled self.now.search (F.limit f.old) self.now.sizes.now values.now }
+        requires settled { AreValuesSettled self.now (F.limit f.old) values.now }
         ensures limit { F.limit f.new ≡ F.limit f.old }
         ensures found { IfOk result (IsValueFound self.now (F.limit f.old) values.now) }
     {
@@ -321,9 +325,9 @@ impl<'a> Entries<'a> {
     /// Looks for the values of all entries, one after the other, each as small as it can be.
     fn each_value<F: Finder>(&self, alloc: Global, f: &mut F) -> Result<Numbers, AllocError>
         requires entries { AreEntries self.now }
-        requires settled { AreSettled self.now.search (F.limit f.old) self.now.sizes.now [] }
+        requires settled { AreValuesSettled self.now (F.limit f.old) [] }
         ensures limit { F.limit f.new ≡ F.limit f.old }
-        ensures found { IfOk result (AreValuesFound self.now.search (F.limit f.old) self.now.sizes.now) }
+        ensures found { IfOk result (AreEntriesFound self.now (F.limit f.old)) }
     {
         let mut values = Seq::new(alloc);
         'each: for _k in 0..self.cells.len() {
@@ -336,17 +340,18 @@ impl<'a> Entries<'a> {
     }
 }
 
-/// Looks for the least of the worlds that meet the query: first by how many elements the sorts have,
-/// sort by sort, and then by the values of the tables, in the order in which finders of finite models
-/// enumerate them (Jian Zhang and Hantao Zhang, "SEM: a System for Enumerating Models", 1995).
+/// Looks for the least of the worlds that meet the query: first by how many elements the sorts
+/// have, sort by sort, and then by the values of the tables, in the order in which finders of
+/// finite models enumerate them (Jian Zhang and Hantao Zhang, "SEM: a System for Enumerating
+/// Models", 1995).
 ///
-/// Where some world meets the query, it asks which size each sort can have, from 1 on, and then which
-/// value each table entry can have, from 0 on, and settles each before it asks for the next one. So
-/// the answer is the same whatever worlds the finder gives.
+/// Where some world meets the query, it asks which size each sort can have, from 1 on, and then
+/// which value each table entry can have, from 0 on, and settles each before it asks for the next
+/// one. So the answer is the same whatever worlds the finder gives.
 ///
 /// It asks for what [`Finder::find`] asks for. Where a query of the search is above the finder's
-/// limit, it gives that query and its weight. Where the sizes that are tried sum up to 2^32 or more,
-/// it answers out of memory.
+/// limit, it gives that query and its weight. Where the sizes that are tried sum up to 2^32 or
+/// more, it answers out of memory.
 pub fn least<F: Finder>(
     alloc: Global,
     f: &mut F,

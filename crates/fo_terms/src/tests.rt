@@ -1,4 +1,4 @@
-use crate::{Places, Universe, counts, rises, universe, weight};
+use crate::{Universe, counts, rises, universe_from, weight};
 use fo_core::{
     Formula, MOST_WEIGHT, Order, Query, Seq, Sig, Symbol, Term, all_over, some_over, variables,
 };
@@ -22,10 +22,9 @@ fn signature(alloc: Global, sorts: u32, relation: bool, to: u32) -> Result<Sig, 
 /// What is reckoned for a query about one copy.
 #[derive(Drop)]
 struct Reckoned {
-    counts: Seq<u64>,
+    counts: Vec<u64>,
     weight: u64,
     universe: Universe,
-    places: Places,
 }
 
 fn reckon(
@@ -46,11 +45,11 @@ fn reckon(
     let counts = counts(alloc, sig, &form, &order)?;
     let weight = weight(sig, &form, counts.as_slice());
     assert!(rt; weight <= MOST_WEIGHT);
-    let universe = universe(alloc, sig, &form, &order)?;
+    let shown = counts.as_slice().to_vec(alloc)?;
+    let universe = universe_from(alloc, sig, &form, &order, counts)?;
     Ok(Reckoned {
         weight,
-        counts,
-        places: Places::new(alloc, sig, &form, &universe)?,
+        counts: shown,
         universe,
     })
 }
@@ -102,6 +101,5 @@ fn a_sort_alone_has_one_term(rt: HostRuntime) -> Result<(), Fail> {
     let universe = found.universe.copy(alloc)?;
     assert_eq!(rt; universe.terms.len(), 1);
     assert_eq!(rt; universe.terms.at(0).symbol, u32::MAX);
-    assert!(rt; found.places.copy(alloc)?.sizes.as_slice() == [1].as_slice());
     Ok(())
 }

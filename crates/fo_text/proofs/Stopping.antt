@@ -1,10 +1,10 @@
 -- From exact readers to what they say of the bytes.
 use Rattle.std.proofs.Common.{◌≡◌, ℕ, ◌+◌, ◌-◌, ◌<◌, ◌≤◌, List, [], ◌∷◌, ◌++◌, length, take, Ok, Err, Result, Bor, refl, sym, ap, ◌∙◌, append_assoc, length-append, arith}
-use Rattle.std.specs.Prelude.{IfOk, IfErr, MatchResult}
+use Rattle.std.specs.Prelude.{IfOk, IfErr}
 use Rattle.std.proofs.lemmas.List.{append-nil, take_at}
 use Rattle.fo_text.specs.declared.halt.Halt.{Halt}
 use Rattle.fo_text.specs.declared.halt.Halt.TheVariants.{Memory, Fault}
-use Rattle.fo_text.specs.Parts.{StartsWith, IsBetween, number_text, BeginsNumber, StopsBefore, HasPlace, IsStop}
+use Rattle.fo_text.specs.Parts.{StartsWith, IsBetween, number_text, HasNumber, BeginsNumber, StopsBefore, HasPlace, IsOk, IsStop}
 use Rattle.fo_text.specs.Reading.{Read, Gives, ◌>>=◌, literal_at, number_at}
 use Rattle.fo_text.proofs.Exact.{ok_is, Exact, FailsBehind, IsFault, exact_done, exact_after}
 use Rattle.fo_text.proofs.Numbers.{Bounds, exact_number}
@@ -48,27 +48,25 @@ number_only least most ending bounds bytes x rest fit e = ap (number_at least mo
 pub number_stops : (least most ending : ℕ) → Bounds least most ending → (bytes : List ℕ) (left : ℕ) → number_at least most ending bytes ≡ Err left → StopsBefore (BeginsNumber least most ending) bytes left
 number_stops least most ending bounds = stops_before (IsBetween least most) (number_text ending) (number_at least most ending) (exact_number least most ending bounds)
 
-pub number_never : (least most ending : ℕ) → Bounds least most ending → (bytes : List ℕ) (left x : ℕ) (rest : List ℕ) → number_at least most ending bytes ≡ Err left → IsBetween least most x → bytes ≡ number_text ending x ++ rest → ⊥
-number_never least most ending bounds bytes left x rest e fit h = let k = number_only least most ending bounds bytes x rest fit h in absurd (cc (k, e))
+pub number_never : (least most ending : ℕ) → Bounds least most ending → (bytes : List ℕ) (left : ℕ) (x : ℕ × List ℕ) → number_at least most ending bytes ≡ Err left → HasNumber least most ending bytes x → ⊥
+number_never least most ending bounds bytes left x e h = let k = number_only least most ending bounds bytes x.0 x.1 h.0 h.1 in absurd (cc (k, e))
 
 -- what is read says all
 pub record Told (least most ending : ℕ) (bytes : List ℕ) (result : Result (ℕ × Bor (List ℕ)) Halt) : Type 0 where
-  pub found : IfOk result (λ x. IsBetween least most x.0 × (bytes ≡ number_text ending x.0 ++ x.1.now))
-  pub only : (n : ℕ) (rest : List ℕ) → IsBetween least most n → bytes ≡ number_text ending n ++ rest → MatchResult result (λ x. (x.0 ≡ n) × (x.1.now ≡ rest)) (λ _. ⊥)
+  pub found : IfOk result (λ x. HasNumber least most ending bytes (x.0, x.1.now))
+  pub only : (x : ℕ × List ℕ) → HasNumber least most ending bytes x → IsOk (λ (y : ℕ × Bor (List ℕ)). (y.0, y.1.now)) result x
   pub fault : IfErr result (IsStop (BeginsNumber least most ending) bytes)
 
 pub number_told : (least most ending : ℕ) → Bounds least most ending → (bytes : List ℕ) (result : Result (ℕ × Bor (List ℕ)) Halt) → Gives (λ x. (x.0, x.1.now)) result (number_at least most ending bytes) → IfErr result HasPlace → Told least most ending bytes result
 number_told least most ending bounds bytes (Ok x) e place = record {
   found = number_found least most ending bounds bytes x.0 x.1.now e;
-  only = λ n rest fit h.
-      let same : (x.0, x.1.now) ≡ (n, rest) = ok_is (x.0, x.1.now) (n, rest) (sym e ∙ number_only least most ending bounds bytes n rest fit h) in
-      (ap (λ (p : ℕ × List ℕ). p.0) same, ap (λ (p : ℕ × List ℕ). p.1) same);
+  only = λ y h. ok_is (x.0, x.1.now) y (sym e ∙ number_only least most ending bounds bytes y.0 y.1 h.0 h.1);
   fault = tt;
 }
 number_told least most ending bounds bytes (Err Memory) e place = absurd place
 number_told least most ending bounds bytes (Err (Fault left)) e place = record {
   found = tt;
-  only = λ n rest fit h. number_never least most ending bounds bytes left n rest e fit h;
+  only = λ y h. number_never least most ending bounds bytes left y e h;
   fault = number_stops least most ending bounds bytes left e;
 }
 

@@ -1,5 +1,5 @@
-ghost use Rattle.std.specs.Prelude.{◌≡◌, ◌==◌, ◌&&◌, nat_le, ◌++◌, ◌<◌, ◌≤◌, ℕ, List, IfOk, IfErr, MatchResult};
-ghost use Rattle.fo_text.specs.Parts.{StartsWith, IsBetween, number_text, BeginsNumber, HasPlace, IsStop};
+ghost use Rattle.std.specs.Prelude.{◌≡◌, ◌==◌, ◌&&◌, nat_le, ◌++◌, ◌<◌, ◌≤◌, ℕ, List, IfOk, IfErr};
+ghost use Rattle.fo_text.specs.Parts.{StartsWith, HasNumber, BeginsNumber, HasPlace, IsOk, IsStop};
 ghost use Rattle.fo_text.specs.Reading.{Gives, literal_at, begins_some, begins_number, goes_on, digits_at, number_at};
 
 use crate::halt::Halt;
@@ -10,7 +10,7 @@ pub fn literal<'a>(bytes: &'a [u8], text: &[u8]) -> Result<&'a [u8], Halt>
     // What is answered stands after the text.
     ensures found { IfOk result (λ rest. bytes.now ≡ text.now ++ rest.now) }
     // Bytes that begin with the text are answered.
-    ensures only { (rest : List ℕ) → bytes.now ≡ text.now ++ rest → MatchResult result (λ r. r.now ≡ rest) (λ _. ⊥) }
+    ensures only { (rest : List ℕ) → bytes.now ≡ text.now ++ rest → IsOk (λ r. r.now) result rest }
     // A fault is at the first byte at which the text doesn't go on.
     ensures fault { IfErr result (IsStop (StartsWith text.now) bytes.now) }
     // The same as a step of a reader of longer texts.
@@ -107,9 +107,9 @@ pub fn number(bytes: &[u8], least: u64, most: u64, ending: u8) -> Result<(u64, &
     requires range { least ≤ most }
     requires below { ending < 48 }
     // What is answered is a number from the least to the most that stands at the front.
-    ensures found { IfOk result (λ x. IsBetween least most x.0 × (bytes.now ≡ number_text ending x.0 ++ x.1.now)) }
+    ensures found { IfOk result (λ x. HasNumber least most ending bytes.now (x.0, x.1.now)) }
     // Such a number that stands there is answered.
-    ensures only { (n : ℕ) (rest : List ℕ) → IsBetween least most n → bytes.now ≡ number_text ending n ++ rest → MatchResult result (λ x. (x.0 ≡ n) × (x.1.now ≡ rest)) (λ _. ⊥) }
+    ensures only { (x : ℕ × List ℕ) → HasNumber least most ending bytes.now x → IsOk (λ y. (y.0, y.1.now)) result x }
     // A fault is at the first byte at which none goes on.
     ensures fault { IfErr result (IsStop (BeginsNumber least most ending) bytes.now) }
     // The same as a step of a reader of longer texts.

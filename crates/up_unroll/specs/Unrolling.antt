@@ -20,13 +20,14 @@ pub record IsUnrollExcess (sys : System) (limit steps : ℕ) (x : Excess) : Type
   pub light : All (IsLight sys.sig limit) (run_queries sys length)
   pub excess : IsExcess sys.sig (run_query sys length) limit x
 
--- the least run, or that there is none, where all that was asked to find this is light; or the first
--- query that is above the limit
+-- the least run, or that there is none, where all that was asked to find this is light; or the
+-- first query that is above the limit
 abbrev pub IsUnrolled : System → ℕ → ℕ → Unrolled → Type 0
 IsUnrolled sys limit steps (Run w) =
     (k : ℕ) ×
     IsLeastRun sys steps k w ×
     All (IsLight sys.sig limit) (run_queries sys k ++ least_queries sys.sig (run_query sys k) w)
 IsUnrolled sys limit steps NoRun =
-    ((j : ℕ) → j ≤ steps → HasNoRunOf sys j) × All (IsLight sys.sig limit) (run_queries sys (steps + 1))
+    ((j : ℕ) → j ≤ steps → HasNoRunOf sys j) ×
+    All (IsLight sys.sig limit) (run_queries sys (steps + 1))
 IsUnrolled sys limit steps (Over kind x) = (kind ≡ Unroll) × IsUnrollExcess sys limit steps x

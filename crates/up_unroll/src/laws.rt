@@ -8,5 +8,6 @@ ghost use Rattle.up_unroll.specs.Unrolling.{IsUnrolled};
 
 /// A search for a violating run has at most one answer.
 pub fn one_answer_of_unroll()
-    ensures { (sys : System) (limit steps : ℕ) (a b : Unrolled) → IsSystem sys → IsUnrolled sys limit steps a → IsUnrolled sys limit steps b → a ≡ b }
+    ensures { (sys : System) (limit steps : ℕ) (a b : Unrolled) → IsSystem sys →
+        IsUnrolled sys limit steps a → IsUnrolled sys limit steps b → a ≡ b }
 {}

@@ -17,7 +17,7 @@ returns-then-is_empty c =
     let r = number_none c.args.least c.args.most c.args.ending bytes (eqb-true _ _ (sym c.is_empty.ensures ∙ c.if-is_empty.true)) in
     record {
       found = tt;
-      only = λ n rest fit e. number_never c.args.least c.args.most c.args.ending bounds bytes 0 n rest r fit e;
+      only = λ x h. number_never c.args.least c.args.most c.args.ending bounds bytes 0 x r h;
       fault = number_stops c.args.least c.args.most c.args.ending bounds bytes 0 r;
       read = r;
     }
@@ -29,7 +29,7 @@ returns-then-not-begins c =
     let r : number_at c.args.least c.args.most c.args.ending bytes ≡ Err (length bytes) = number_refused c.args.least c.args.most c.args.ending bytes (is_there _ _ c.is_empty.ensures c.if-is_empty.false) (sym c.begins.ensures ∙ c.if-not-begins.true) in
     record {
       found = tt;
-      only = λ n rest fit e. number_never c.args.least c.args.most c.args.ending bounds bytes (length bytes) n rest r fit e;
+      only = λ x h. number_never c.args.least c.args.most c.args.ending bounds bytes (length bytes) x r h;
       fault = number_stops c.args.least c.args.most c.args.ending bounds bytes (length bytes) r;
       read = r;
     }
