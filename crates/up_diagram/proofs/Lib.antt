@@ -2,8 +2,10 @@ pub mod Bounds
 pub mod Covered
 pub mod Differing
 pub mod Leaving
+pub mod Places
 pub mod Said
 pub mod Sentences
 pub mod Stepping
+pub mod Tightening
 pub mod Trials
 pub mod UniversalRows
