@@ -1,0 +1,6 @@
+pub mod Begun
+pub mod Comparing
+pub mod Ordered
+pub mod Placed
+pub mod Putting
+pub mod Walking

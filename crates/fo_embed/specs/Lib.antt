@@ -1,0 +1,4 @@
+pub mod Asked
+pub mod Compared
+pub mod Placing
+pub mod Searching
