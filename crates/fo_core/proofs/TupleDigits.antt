@@ -1,5 +1,5 @@
 -- The tuple of a number, found digit by digit from the last one.
-use Rattle.std.proofs.Common.{◌≡◌, ℕ, zero, suc, ◌+◌, ◌-◌, ◌*◌, ◌/◌, ◌%◌, ◌<◌, ◌≤◌, ◌⊎◌, inl, inr, List, [], ◌∷◌, length, get_or, map, drop, set, refl, sym, ap, subst, ◌∙◌, arith, add-one}
+use Rattle.std.proofs.Common.{◌≡◌, ℕ, zero, suc, ◌+◌, ◌-◌, ◌*◌, ◌/◌, ◌%◌, ◌<◌, ◌≤◌, List, [], ◌∷◌, length, get_or, map, drop, set, sym, ap, subst, ◌∙◌, arith, add-one}
 use Rattle.std.specs.List.{All, AllZip}
 use Rattle.std.specs.Prelude.{slice_index}
 use Rattle.std.proofs.Math.ListN.{drop_of_length-le}
@@ -9,7 +9,6 @@ use Rattle.std.proofs.lemmas.List.{drop-set, length-set, length-map, get_or-map}
 use Rattle.std.proofs.lemmas.Nat.{div-add-mod'}
 use Rattle.fo_core.specs.Tables.{tuples, place}
 use Rattle.fo_core.specs.Tuples.{tuple_at}
-use Rattle.fo_core.proofs.TableLemmas.{place-lt}
 use Rattle.fo_core.proofs.TupleLemmas.{tuple-place}
 
 -- the digits from i on are found, and what is left to divide is `rest`

@@ -1,5 +1,5 @@
 -- Universal formulas: in negation normal form they have no existential.
-use Rattle.std.specs.Prelude.{ℕ, ◌≡◌, Bool, true, false, not, [], ⊤}
+use Rattle.std.specs.Prelude.{◌≡◌, Bool, true, false, not, [], ⊤}
 use Rattle.fo_core.specs.declared.signature.Sig.{Sig}
 use Rattle.fo_core.specs.declared.formula.Formula.{Formula, True, False, Rel, Eq, Not', And', Or', All', Ex', Row_of-Formula, end_of-Formula, more_of-Formula}
 use Rattle.fo_core.specs.Sorted.{IsFormula}

@@ -1,4 +1,5 @@
-ghost use Rattle.std.specs.Prelude.{◌≡◌, ◌↔◌, IsTrue, IfOk};
+ghost use Rattle.std.specs.Prelude.{◌≡◌, ◌↔◌, ◌∷◌, [], IsTrue, IfOk};
+ghost use Rattle.fo_core.specs.declared.formula.Formula.TheVariants as F;
 
 use crate::boxed::Boxed;
 use crate::seq::Seq;
@@ -50,6 +51,33 @@ impl Formula {
             Formula::All(s, g) => Ok(Formula::All(*s, Boxed::new(alloc, g.get().copy(alloc)?)?)),
             Formula::Ex(s, g) => Ok(Formula::Ex(*s, Boxed::new(alloc, g.get().copy(alloc)?)?)),
         }
+    }
+
+    /// The negation of the formula.
+    pub fn not(alloc: Global, f: Formula) -> Result<Formula, AllocError>
+        ensures { IfOk result (λ g. g ≡ F.Not f) }
+    {
+        Ok(Formula::Not(Boxed::new(alloc, f)?))
+    }
+
+    /// The conjunction of the two formulas.
+    pub fn both(alloc: Global, f: Formula, g: Formula) -> Result<Formula, AllocError>
+        ensures { IfOk result (λ h. h ≡ F.And (f ∷ g ∷ [])) }
+    {
+        let mut parts = Seq::new(alloc);
+        parts.push(f)?;
+        parts.push(g)?;
+        Ok(Formula::And(parts))
+    }
+
+    /// The disjunction of the two formulas.
+    pub fn either(alloc: Global, f: Formula, g: Formula) -> Result<Formula, AllocError>
+        ensures { IfOk result (λ h. h ≡ F.Or (f ∷ g ∷ [])) }
+    {
+        let mut parts = Seq::new(alloc);
+        parts.push(f)?;
+        parts.push(g)?;
+        Ok(Formula::Or(parts))
     }
 
     /// Whether both are equal. It takes no memory.

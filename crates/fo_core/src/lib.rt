@@ -52,8 +52,4 @@ pub use weight_laws::{fewer_formulas_are_no_heavier, fewer_literals_are_no_heavi
 pub use world::{Table, World};
 
 #[cfg(test)]
-mod shift_tests;
-#[cfg(test)]
 mod tests;
-#[cfg(test)]
-mod world_tests;

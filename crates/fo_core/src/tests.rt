@@ -1,16 +1,12 @@
-ghost use Rattle.std.specs.Prelude.{◌≡◌, [], ◌∷◌, true, false, IfOk};
-
 use crate::{
-    Boxed, Formula, Names, Order, Purpose, Seq, Sig, Step, Symbol, System, Table, Term, Text,
-    World, is_name, is_reserved, is_word,
+    Boxed, Cell, Formula, Found, Names, Order, Query, Seq, Sig, Step, Symbol, System, Table, Term,
+    Text, World, all_over, all_tuples, shifted, some_over, tuple_at, variables,
 };
 use std::alloc::{AllocError, Global};
 use std::test::Fail;
 
-/// One sort, a mutable relation over it and an immutable function on it.
-fn signature(alloc: Global) -> Result<Sig, AllocError>
-    ensures { IfOk result (λ sig. sig ≡ record { sorts = 1; symbols = record { relation = true; mutable = true; args = 0 ∷ []; result = 0 } ∷ record { relation = false; mutable = false; args = 0 ∷ []; result = 0 } ∷ [] }) }
-{
+/// One sort and a mutable relation over it.
+fn signature(alloc: Global) -> Result<Sig, AllocError> {
     let mut symbols = Seq::new(alloc);
     symbols.push(Symbol {
         relation: true,
@@ -18,52 +14,12 @@ fn signature(alloc: Global) -> Result<Sig, AllocError>
         args: Seq::from_vec([0].to_vec(alloc)?),
         result: 0,
     })?;
-    symbols.push(Symbol {
-        relation: false,
-        mutable: false,
-        args: Seq::from_vec([0].to_vec(alloc)?),
-        result: 0,
-    })?;
     Ok(Sig { sorts: 1, symbols })
 }
 
-fn table(alloc: Global, values: &[u32]) -> Result<Table, AllocError>
-    ensures { IfOk result (λ t. t ≡ record { values = values.now }) }
-{
-    Ok(Table {
-        values: Seq::from_vec(values.to_vec(alloc)?),
-    })
-}
-
-/// Two elements, a fixed table for the function and one copy with a table for the relation.
-fn world(alloc: Global, function: &[u32], relation: &[u32]) -> Result<World, AllocError>
-    ensures { IfOk result (λ w. w ≡ record { sizes = 2 ∷ []; fixed = record { values = function.now } ∷ []; copies = (record { values = relation.now } ∷ []) ∷ [] }) }
-{
-    let mut fixed = Seq::new(alloc);
-    fixed.push(table(alloc, function)?)?;
-    let mut copy = Seq::new(alloc);
-    copy.push(table(alloc, relation)?)?;
-    let mut copies = Seq::new(alloc);
-    copies.push(copy)?;
-    Ok(World {
-        sizes: Seq::from_vec([2].to_vec(alloc)?),
-        fixed,
-        copies,
-    })
-}
-
-/// For all x, the relation holds of the function's value at x or it doesn't hold of x.
+/// The relation holds of all elements.
 fn claim(alloc: Global) -> Result<Formula, AllocError> {
-    let mut x = Seq::new(alloc);
-    x.push(Term::Var(0))?;
-    let mut same = Seq::new(alloc);
-    same.push(Term::Var(0).copy(alloc)?)?;
-    let mut value = Seq::new(alloc);
-    value.push(Term::App(1, 0, same))?;
-    let mut either = Seq::new(alloc);
-    either.push(Formula::Rel(0, 0, value))?;
-    either.push(Formula::Not(Boxed::new(alloc, Formula::Rel(0, 0, x))?))?;
-    Ok(Formula::All(0, Boxed::new(alloc, Formula::Or(either))?))
+    all_over(alloc, &[0], Formula::Rel(0, 0, variables(alloc, 0, 1)?))
 }
 
 fn system(alloc: Global, safety: Formula) -> Result<System, AllocError> {
@@ -85,53 +41,23 @@ fn system(alloc: Global, safety: Formula) -> Result<System, AllocError> {
     })
 }
 
-#[test]
-fn worlds_fit_or_not(rt: HostRuntime) -> Result<(), Fail> {
-    let alloc = rt.alloc();
-    let sig = signature(alloc)?;
-    assert!(rt; sig.is_well_sorted());
-    assert!(rt; world(alloc, &[1, 0], &[0, 1])?.fits(&sig));
-    assert!(rt;
-        !world(alloc, &[1, 2], &[0, 1])?.fits(&sig),
-        "a value out of range"
-    );
-    assert!(rt;
-        !world(alloc, &[1, 0], &[0, 2])?.fits(&sig),
-        "no truth value"
-    );
-    assert!(rt;
-        !world(alloc, &[1], &[0, 1])?.fits(&sig),
-        "a table that isn't total"
-    );
-    Ok(())
+/// One element, and a copy with this table.
+fn world(alloc: Global, value: u32) -> Result<World, AllocError> {
+    let mut copy = Seq::new(alloc);
+    copy.push(Table {
+        values: Seq::from_vec([value].to_vec(alloc)?),
+    })?;
+    let mut copies = Seq::new(alloc);
+    copies.push(copy)?;
+    Ok(World {
+        sizes: Seq::from_vec([1].to_vec(alloc)?),
+        fixed: Seq::new(alloc),
+        copies,
+    })
 }
 
-#[test]
-fn values_are_read(rt: HostRuntime) -> Result<(), Fail> {
-    let alloc = rt.alloc();
-    let sig = signature(alloc)?;
-    assert!(rt; sig.is_well_sorted());
-    let world = world(alloc, &[1, 0], &[0, 1])?;
-    assert!(rt; world.fits(&sig));
-    assert_eq!(rt; world.value(&sig, 0, 0, &[0]), 0);
-    assert_eq!(rt; world.value(&sig, 0, 0, &[1]), 1);
-    assert_eq!(rt; world.value(&sig, 0, 1, &[0]), 1);
-    let copy = world.copy(alloc)?;
-    assert!(rt; copy.fits(&sig.copy(alloc)?));
-    Ok(())
-}
-
-#[test]
-fn orders_are_copied(rt: HostRuntime) -> Result<(), Fail> {
-    let alloc = rt.alloc();
-    let order = Order {
-        numbers: Seq::from_vec([2, 1].to_vec(alloc)?),
-    };
-    let copy = order.copy(alloc)?;
-    assert_eq!(rt; *copy.numbers.at(0), 2);
-    assert_eq!(rt; copy.numbers.len(), 2);
-    assert!(rt; Purpose::Infer != Purpose::Verify);
-    Ok(())
+fn text(alloc: Global, text: &str) -> Result<Text, AllocError> {
+    Ok(Text::from_string(String::from_str(alloc, text)?))
 }
 
 #[test]
@@ -139,16 +65,49 @@ fn systems_are_sorted_or_not(rt: HostRuntime) -> Result<(), Fail> {
     let alloc = rt.alloc();
     let good = system(alloc, claim(alloc)?)?;
     assert!(rt; good.is_well_sorted(alloc)?);
-    assert!(rt; good.copy(alloc)?.is_well_sorted(alloc)?);
-    assert!(rt; good.is_within_depth(1));
-    assert!(rt; !good.is_within_depth(0));
+    assert!(rt; good.copy(alloc)?.same(&good));
+    assert!(rt; good.is_within_depth(1) && !good.is_within_depth(0));
     let open = system(alloc, Formula::Eq(Term::Var(0), Term::Var(0)))?;
     assert!(rt; !open.is_well_sorted(alloc)?, "a variable without a binder");
     Ok(())
 }
 
-fn text(alloc: Global, text: &str) -> Result<Text, AllocError> {
-    Ok(Text::from_string(String::from_str(alloc, text)?))
+#[test]
+fn queries_are_sorted_or_not(rt: HostRuntime) -> Result<(), Fail> {
+    let alloc = rt.alloc();
+    let sig = signature(alloc)?;
+    let mut claims = Seq::new(alloc);
+    claims.push(some_over(alloc, &[0], Formula::Rel(0, 1, variables(alloc, 0, 1)?))?)?;
+    let two = Query { copies: 2, claims };
+    assert!(rt; two.is_well_sorted(alloc, &sig)?);
+    assert!(rt; two.copy(alloc)?.same(&two));
+    let one = Query {
+        copies: 1,
+        claims: two.claims.copy(alloc)?,
+    };
+    assert!(rt;
+        !one.is_well_sorted(alloc, &sig)?,
+        "a copy that isn't there"
+    );
+    Ok(())
+}
+
+#[test]
+fn worlds_are_copied(rt: HostRuntime) -> Result<(), Fail> {
+    let alloc = rt.alloc();
+    let sig = signature(alloc)?;
+    let w = world(alloc, 1)?;
+    assert!(rt; sig.is_well_sorted());
+    assert!(rt; w.fits(&sig) && !world(alloc, 2)?.fits(&sig));
+    assert!(rt; w.copy(alloc)?.same(&w));
+    assert!(rt; !w.same(&world(alloc, 0)?), "another value");
+    if !w.copies.is_empty() {
+        assert!(rt; w.alone(alloc, 0)?.same(&w));
+    }
+    if w.copies.len() > 1 {
+        assert!(rt; w.pair(alloc, 0)?.same(&w));
+    }
+    Ok(())
 }
 
 #[test]
@@ -162,51 +121,25 @@ fn names_fit_or_not(rt: HostRuntime) -> Result<(), Fail> {
         definitions: Seq::new(alloc),
     };
     names.sorts.push(text(alloc, "node")?)?;
-    names.symbols.push(text(alloc, "held")?)?;
     assert!(rt; !names.fit(&sig, 0), "a symbol without a name");
-    let mut twice = names.copy(alloc)?;
-    twice.symbols.push(text(alloc, "held")?)?;
-    assert!(rt; !twice.fit(&sig, 0), "a name twice");
-    names.symbols.push(text(alloc, "_next2")?)?;
-    assert!(rt; names.fit(&sig, 0));
-    names.steps.push(text(alloc, "2nd")?)?;
-    assert!(rt; !names.fit(&sig, 1), "no word");
-    Ok(())
-}
-
-#[test]
-fn reserved_words_are_no_names(rt: HostRuntime) -> Result<(), Fail> {
-    assert!(rt; is_word(b"false"));
-    assert!(rt; is_reserved(b"false"));
-    assert!(rt; !is_name(b"false"));
-    assert!(rt; is_name(b"falsehood"));
-    assert!(rt; !is_name(b"2nd"));
-    Ok(())
-}
-
-/// The names `node`, `held` and `_next2` of the sort and the symbols of `signature`.
-fn named(alloc: Global) -> Result<Names, AllocError> {
-    let mut names = Names {
-        sorts: Seq::new(alloc),
-        symbols: Seq::new(alloc),
-        steps: Seq::new(alloc),
-        definitions: Seq::new(alloc),
-    };
-    names.sorts.push(text(alloc, "node")?)?;
     names.symbols.push(text(alloc, "held")?)?;
-    names.symbols.push(text(alloc, "_next2")?)?;
-    Ok(names)
+    assert!(rt; names.copy(alloc)?.fit(&sig, 0));
+    names.definitions.push(text(alloc, "false")?)?;
+    assert!(rt; !names.fit(&sig, 0), "a reserved word");
+    Ok(())
 }
 
 #[test]
-fn definitions_are_named_apart_from_symbols(rt: HostRuntime) -> Result<(), Fail> {
+fn tuples_are_listed(rt: HostRuntime) -> Result<(), Fail> {
     let alloc = rt.alloc();
-    let sig = signature(alloc)?;
-    let mut names = named(alloc)?;
-    names.definitions.push(text(alloc, "node")?)?;
-    assert!(rt; names.fit(&sig, 0));
-    names.definitions.push(text(alloc, "held")?)?;
-    assert!(rt; !names.fit(&sig, 0), "a symbol's name");
+    let tuples = all_tuples(alloc, &[2, 3])?;
+    assert_eq!(rt; tuples.len(), 6);
+    let cell = Cell {
+        symbol: 0,
+        copy: 0,
+        args: tuple_at(alloc, &[2], &[0], 1)?,
+    };
+    assert!(rt; cell.copy(alloc)?.args.as_slice() == [1].as_slice());
     Ok(())
 }
 
@@ -223,14 +156,22 @@ fn values_cross_threads(rt: HostRuntime) -> Result<(), Fail> {
     let alloc = rt.alloc();
     let system = sends(system(alloc, claim(alloc)?)?);
     assert_eq!(rt; shares(&system).safeties.len(), 1);
-    let world = sends(world(alloc, &[1, 0], &[0, 1])?);
-    assert_eq!(rt; shares(&world).copies.len(), 1);
+    let found = sends(Found::Model(world(alloc, 1)?));
+    assert!(rt; matches!(shares(&found).copy(alloc)?, Found::Model(_)));
     let order = sends(Order {
         numbers: Seq::new(alloc),
     });
-    assert!(rt; shares(&order).numbers.is_empty());
+    assert!(rt; shares(&order).copy(alloc)?.numbers.is_empty());
     let boxed = Boxed::new(alloc, sends(claim(alloc)?))?;
     assert!(rt; matches!(shares(&boxed).get(), Formula::All(_, _)));
-    assert!(rt; matches!(boxed.into_inner(), Formula::All(_, _)));
+    let mut claims = Seq::new(alloc);
+    claims.push(shifted_claim(alloc, &system.sig)?)?;
+    let query = sends(Query { copies: 2, claims });
+    assert_eq!(rt; shares(&query).copies, 2);
     Ok(())
+}
+
+/// `true`, said of copy 1.
+fn shifted_claim(alloc: Global, sig: &Sig) -> Result<Formula, AllocError> {
+    shifted(alloc, sig, &Formula::True, 1)
 }

@@ -1,5 +1,5 @@
 -- Elements for one sort after another.
-use Rattle.std.proofs.Common.{◌≡◌, ℕ, zero, suc, true, false, not, Bool, ◌↔◌, ◌+◌, ◌-◌, ◌<◌, ◌≤◌, List, [], ◌∷◌, ◌++◌, length, get_or, take, drop, refl, sym, ap, subst, ◌∙◌, arith, append_assoc, append-nil, length-append, inl, inr, ◌⊎◌}
+use Rattle.std.proofs.Common.{◌≡◌, ℕ, true, false, Bool, ◌↔◌, ◌+◌, ◌-◌, ◌<◌, ◌≤◌, List, [], ◌∷◌, ◌++◌, length, get_or, take, drop, refl, sym, subst, ◌∙◌, arith, append_assoc, append-nil, length-append, inl, inr, ◌⊎◌}
 use Rattle.std.specs.List.{All, AllZip}
 use Rattle.std.specs.Prelude.{slice_index, IsTrue}
 use Rattle.std.proofs.lemmas.Bool.{cases_lt}
@@ -13,9 +13,8 @@ use Rattle.fo_core.specs.declared.system.Step.{Step}
 use Rattle.fo_core.specs.declared.system.System.{System}
 use Rattle.fo_core.specs.Runs.{KeepsOthers, LeadsOn, IsStep}
 use Rattle.fo_core.proofs.MoreCopies.{formula-more}
-use Rattle.fo_core.specs.Sorted.{IsFormula, binders}
 use Rattle.fo_eval.specs.Values.{Values}
-use Rattle.fo_eval.specs.Asked.{IsReadable, CanHold, CanJudge, CanTell, CanFill, SomeFill}
+use Rattle.fo_eval.specs.Asked.{CanHold, CanJudge, CanFill, SomeFill}
 use Rattle.fo_core.proofs.Answered.{never, always}
 use Rattle.fo_eval.proofs.HoldLemmas.{pushed}
 

@@ -1,5 +1,5 @@
 -- What a call on a formula knows of its parts.
-use Rattle.std.proofs.Common.{◌≡◌, ℕ, true, false, not, Bool, true≢false, ◌↔◌, ◌+◌, ◌-◌, ◌<◌, ◌≤◌, ◌^◌, List, [], ◌∷◌, ◌++◌, length, get_or, map, refl, sym, ap, subst, ◌∙◌, arith, length-append}
+use Rattle.std.proofs.Common.{◌≡◌, ℕ, true, false, not, Bool, ◌↔◌, ◌+◌, ◌-◌, ◌<◌, ◌≤◌, ◌^◌, List, [], ◌∷◌, ◌++◌, length, get_or, map, sym, ap, subst, ◌∙◌, arith, length-append}
 use Rattle.std.specs.List.{AllZip}
 use Rattle.std.specs.Prelude.{slice_index, IsTrue}
 use Rattle.std.proofs.lemmas.Bool.Decides.{Decides-not}
@@ -10,7 +10,7 @@ use Rattle.fo_core.specs.declared.formula.Formula.{Formula}
 use Rattle.fo_core.specs.declared.formula.Formula.TheVariants as F
 use Rattle.fo_core.specs.declared.world.World.{World}
 use Rattle.fo_core.specs.declared.world.Table.{Table}
-use Rattle.fo_core.specs.Tables.{symbol_at, place, arg_sizes, table_of}
+use Rattle.fo_core.specs.Tables.{IsReadable, symbol_at, place, arg_sizes, table_of}
 use Rattle.fo_core.specs.Truth.{value, Truth}
 use Rattle.fo_core.specs.Sorted.{IsFormula, binders}
 use Rattle.fo_core.proofs.Rows.{sorted-Not, sorted-And, sorted-Or, sorted-All, sorted-Ex, binders-Not, binders-And, binders-Or, binders-All, binders-Ex, truth-Not, truth-And, truth-Or, truth-All, truth-Ex}
@@ -19,7 +19,7 @@ use Rattle.fo_core.proofs.MoreCopies.{formula-more}
 use Rattle.fo_core.proofs.TableLemmas.{table_is}
 use Rattle.fo_core.proofs.ValueLemmas.{list-lt, entry-lt, copy_within}
 use Rattle.fo_eval.specs.Values.{Values}
-use Rattle.fo_eval.specs.Asked.{IsReadable, CanHold, CanTell, AllName, AreRelated}
+use Rattle.fo_eval.specs.Asked.{CanHold, CanTell, AllName, AreRelated}
 
 abbrev pub pushed : Values → ℕ → Values
 pushed env x = record { bound = env.bound ++ x ∷ []; room = env.room }

@@ -12,13 +12,13 @@ use Rattle.fo_core.specs.declared.term.Term.{Term}
 use Rattle.fo_core.specs.declared.term.Term.TheVariants.{App}
 use Rattle.fo_core.specs.declared.world.Table.{Table}
 use Rattle.fo_core.specs.declared.world.World.{World}
-use Rattle.fo_core.specs.Tables.{symbol_at, tuples, place, arg_sizes, table_of}
+use Rattle.fo_core.specs.Tables.{IsReadable, symbol_at, tuples, place, arg_sizes, table_of}
 use Rattle.fo_core.specs.Truth.{value}
 use Rattle.fo_core.specs.Sorted.{IsSymbol, IsTerm}
 use Rattle.fo_core.proofs.Rows.{sorted-App, value-App}
 use Rattle.fo_core.proofs.TableLemmas.{tuples-positive, place-lt, table_is}
 use Rattle.fo_core.proofs.ValueLemmas.{value-lt, list-lt, horner, horner-le, entry-lt, copy_within}
-use Rattle.fo_eval.specs.Asked.{IsReadable, Names, AllName}
+use Rattle.fo_eval.specs.Asked.{Names, AllName}
 
 positive : (xs ns : List ℕ) → AllZip (λ x n. x < n) xs ns → All (λ n. 1 ≤ n) ns
 positive [] [] h = All-nil (λ n. 1 ≤ n)

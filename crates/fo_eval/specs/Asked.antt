@@ -7,16 +7,11 @@ use Rattle.fo_core.specs.declared.system.Step.{Step}
 use Rattle.fo_core.specs.declared.system.System.{System}
 use Rattle.fo_core.specs.declared.term.Term.{Term}
 use Rattle.fo_core.specs.declared.world.World.{World}
-use Rattle.fo_core.specs.Tables.{Fits, tuples, entry, symbol_at}
+use Rattle.fo_core.specs.Tables.{IsReadable, tuples, entry, symbol_at}
 use Rattle.fo_core.specs.Truth.{value, Truth}
 use Rattle.fo_core.specs.Sorted.{IsSymbol, IsTerm, IsFormula, AreClosed, IsSystem, NestAtMost, IsWithinDepth, binders}
 use Rattle.fo_core.specs.Runs.{AreElements, IsState, LeadsOn}
 use Rattle.fo_eval.specs.Values.{Values}
-
--- the world fits the signature, and its copies have numbers of 32 bits
-pub record IsReadable (sig : Sig) (w : World) : Type 0 where
-  pub fits : Fits sig w
-  pub few : length w.copies < 2 ^ 32
 
 -- the formula may be evaluated at copy c: it is well-sorted under variables of some sorts, which
 -- the environment's values are elements of, the copies of which it speaks are there, and its own

@@ -1,6 +1,7 @@
 ghost use Rattle.std.specs.Prelude.{◌≡◌, ◌↔◌, IsTrue};
+ghost use Rattle.fo_core.specs.Tables.{IsReadable};
 ghost use Rattle.fo_core.specs.Truth.{Truth};
-ghost use Rattle.fo_eval.specs.Asked.{IsReadable, CanHold, AreRelated, IsRelated};
+ghost use Rattle.fo_eval.specs.Asked.{CanHold, AreRelated, IsRelated};
 
 use crate::env::Env;
 use crate::term::{place, value};

@@ -1,24 +1,24 @@
-ghost use Rattle.std.specs.Prelude.{◌≡◌, ◌↔◌, ◌<◌, ◌^◌, [], length, IsTrue, MatchOption};
+ghost use Rattle.std.specs.Prelude.{◌≡◌, ◌↔◌, [], IsTrue, MatchOption};
 ghost use Rattle.std.specs.List.{All};
+ghost use Rattle.fo_core.specs.Tables.{IsReadable};
 ghost use Rattle.fo_core.specs.Truth.{Truth};
 ghost use Rattle.fo_core.specs.Runs.{IsState, IsInitial};
-ghost use Rattle.fo_eval.specs.Asked.{IsReadable, CanJudge, CanTell, IsFirstFalse};
+ghost use Rattle.fo_eval.specs.Asked.{CanJudge, CanTell, IsFirstFalse};
 
 use crate::env::Env;
 use crate::eval::holds;
 use fo_core::{Formula, System, World};
 
 /// The first of these closed formulas that is false in the copy.
-fn first_false(sys: &System, w: &World, copy: u32, env: &mut Env, fs: &[Formula]) -> Option<u32>
+fn first_false(sys: &System, w: &World, copy: u32, env: &mut Env, fs: &[Formula]) -> Option<usize>
     requires readable { IsReadable sys.now.sig w.now }
     requires ready { CanTell sys.now.sig w.now copy env.old fs.now }
-    requires few { length fs.now < 2 ^ 32 }
     ensures first { MatchOption result (All (λ f. Truth sys.now.sig w.now copy f []) fs.now) (λ k. IsFirstFalse sys.now.sig w.now copy fs.now k) }
     ensures same { env.new ≡ env.old }
 {
     'each: for (i, f) in fs.iter().enumerate() {
         if !holds(sys, w, copy, env, f) {
-            return Some(i as u32);
+            return Some(i);
         }
     }
     None
@@ -31,12 +31,7 @@ fn all_hold(sys: &System, w: &World, copy: u32, env: &mut Env, fs: &[Formula]) -
     ensures truth { IsTrue result ↔ All (λ f. Truth sys.now.sig w.now copy f []) fs.now }
     ensures same { env.new ≡ env.old }
 {
-    'each: for f in fs {
-        if !holds(sys, w, copy, env, f) {
-            return false;
-        }
-    }
-    true
+    first_false(sys, w, copy, env, fs).is_none()
 }
 
 /// Whether the copy is a state: all axioms are true there. It takes no memory.
@@ -64,5 +59,6 @@ pub fn violates(sys: &System, w: &World, copy: u32, env: &mut Env) -> Option<u32
     ensures first { MatchOption result (All (λ f. Truth sys.now.sig w.now copy f []) sys.now.safeties) (λ k. IsFirstFalse sys.now.sig w.now copy sys.now.safeties k) }
     ensures same { env.new ≡ env.old }
 {
-    first_false(sys, w, copy, env, sys.safeties.as_slice())
+    let first = first_false(sys, w, copy, env, sys.safeties.as_slice())?;
+    Some(first as u32)
 }

@@ -1,8 +1,8 @@
 ghost use Rattle.std.specs.Prelude.{◌≡◌, ◌↔◌, ◌+◌, ◌<◌, ◌^◌, [], length, true, IsTrue, MatchOption};
 ghost use Rattle.std.specs.List.{Contains};
-ghost use Rattle.fo_core.specs.Tables.{symbol_at, table_of};
+ghost use Rattle.fo_core.specs.Tables.{IsReadable, symbol_at, table_of};
 ghost use Rattle.fo_core.specs.Runs.{KeepsOthers, LeadsOn, IsStep};
-ghost use Rattle.fo_eval.specs.Asked.{IsReadable, CanJudge, CanFill, SomeFill, IsFirstStep};
+ghost use Rattle.fo_eval.specs.Asked.{CanJudge, CanFill, SomeFill, IsFirstStep};
 
 use crate::env::Env;
 use crate::eval::holds;

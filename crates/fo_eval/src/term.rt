@@ -1,7 +1,7 @@
 ghost use Rattle.std.specs.Prelude.{◌≡◌, map, slice_index};
-ghost use Rattle.fo_core.specs.Tables.{place as place_of};
+ghost use Rattle.fo_core.specs.Tables.{IsReadable, place as place_of};
 ghost use Rattle.fo_core.specs.Truth.{value as value_of};
-ghost use Rattle.fo_eval.specs.Asked.{IsReadable, Names, AllName};
+ghost use Rattle.fo_eval.specs.Asked.{Names, AllName};
 
 use crate::env::Env;
 use fo_core::{Sig, Term, World};

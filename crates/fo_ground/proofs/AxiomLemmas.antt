@@ -7,12 +7,11 @@ use Rattle.std.proofs.lemmas.List.Elements.{All-nil, All-cons, All-push}
 use Rattle.fo_core.specs.declared.formula.Formula.{Formula}
 use Rattle.prop_core.specs.declared.lit.Lit.{Lit}
 use Rattle.prop_core.specs.Formula.{MeetsClause, IsWithin, AreWithin}
-use Rattle.fo_core.specs.declared.signature.Sig.{Sig}
 use Rattle.fo_terms.specs.declared.terms.Universe.{Universe}
 use Rattle.fo_ground.specs.declared.layout.Layout.{Layout}
 use Rattle.fo_ground.specs.Emits.{Agrees, Adds, rule, implied}
 use Rattle.fo_terms.specs.Universe.{IsOf}
-use Rattle.fo_ground.specs.Layout.{first_of, size_of, IsReady, IsMetBy}
+use Rattle.fo_ground.specs.Layout.{first_of, size_of, IsLaidOut, IsMetBy}
 use Rattle.fo_ground.proofs.Emitting.{All-split, clause_agrees, within_more, adds_same, adds_nothing, adds_and}
 
 abbrev V : Type 0
@@ -119,23 +118,23 @@ module _ (base : ℕ) (P : ℕ → V → Type 0) (n : ℕ) (K : List (List Lit))
   range-as Q t k L to from a = adds_same base [] (λ v. (i : ℕ) → first ≤ i → i < t → P i v) (λ v. (i : ℕ) → Q i → P i v) n K k L
       (λ v h i q. let b = to i q in h i b.0 b.1) (λ v h i le lt. h i (from i le lt)) a
 
-module _ (u : Universe) (lay : Layout) (sig : Sig) (copies base : ℕ) (r : IsReady u lay sig copies base) (s : ℕ) (below : s < sig.sorts) (P : ℕ → V → Type 0) (n : ℕ) (K : List (List Lit)) where
+module _ (u : Universe) (lay : Layout) (r : IsLaidOut u lay) (s : ℕ) (below : s < lay.sig.sorts) (P : ℕ → V → Type 0) (n : ℕ) (K : List (List Lit)) where
   -- one thing for each term of a sort
   pub block-all : (first t k : ℕ) (L : List (List Lit)) → first ≡ first_of u lay s → t ≡ first_of u lay s + size_of u lay s →
-      Adds base [] (λ v. (i : ℕ) → first ≤ i → i < t → P i v) n K k L → Adds base [] (λ v. (i : ℕ) → IsOf u.terms s i → P i v) n K k L
-  block-all first t k L is end a = range-as base P n K first (IsOf u.terms s) t k L
+      Adds lay.base [] (λ v. (i : ℕ) → first ≤ i → i < t → P i v) n K k L → Adds lay.base [] (λ v. (i : ℕ) → IsOf u.terms s i → P i v) n K k L
+  block-all first t k L is end a = range-as lay.base P n K first (IsOf u.terms s) t k L
       (λ i of. let b = (r.blocks s i below).0 of in (omega (arith, b.0), omega (arith, b.1)))
       (λ i ge lt. (r.blocks s i below).1 (omega arith, omega arith)) a
 
   -- one thing for each term of a sort behind one
   pub later-all : (p t k : ℕ) (L : List (List Lit)) → IsOf u.terms s p → t ≡ first_of u lay s + size_of u lay s →
-      Adds base [] (λ v. (i : ℕ) → p + 1 ≤ i → i < t → P i v) n K k L → Adds base [] (λ v. (i : ℕ) → p < i → IsOf u.terms s i → P i v) n K k L
-  later-all p t k L of end a = adds_same base [] (λ v. (i : ℕ) → p + 1 ≤ i → i < t → P i v) (λ v. (i : ℕ) → p < i → IsOf u.terms s i → P i v) n K k L
+      Adds lay.base [] (λ v. (i : ℕ) → p + 1 ≤ i → i < t → P i v) n K k L → Adds lay.base [] (λ v. (i : ℕ) → p < i → IsOf u.terms s i → P i v) n K k L
+  later-all p t k L of end a = adds_same lay.base [] (λ v. (i : ℕ) → p + 1 ≤ i → i < t → P i v) (λ v. (i : ℕ) → p < i → IsOf u.terms s i → P i v) n K k L
       (λ v h i lt at. let b = (r.blocks s i below).0 at in h i (omega arith) (omega (arith, b.1)))
       (λ v h i ge lt. let b = (r.blocks s p below).0 of in h i (omega arith) ((r.blocks s i below).1 (omega (arith, b.0), omega arith))) a
 
 -- a prefix of the claims that is as long as they are is all of them
-pub claims-all : (u : Universe) (lay : Layout) (sig : Sig) (base : ℕ) (fs : List Formula) (i n : ℕ) (K : List (List Lit)) (k : ℕ) (L : List (List Lit)) → length fs ≤ i →
-    Adds base [] (λ v. All (λ f. IsMetBy u lay sig f [] v) (take i fs)) n K k L → Adds base [] (λ v. All (λ f. IsMetBy u lay sig f [] v) fs) n K k L
-claims-all u lay sig base fs i n K k L le h = adds_same base [] (λ v. All (λ f. IsMetBy u lay sig f [] v) (take i fs)) (λ v. All (λ f. IsMetBy u lay sig f [] v) fs) n K k L
-    (λ v m. subst (All (λ f. IsMetBy u lay sig f [] v)) (take_all i fs le) m) (λ v m. subst (All (λ f. IsMetBy u lay sig f [] v)) (sym (take_all i fs le)) m) h
+pub claims-all : (u : Universe) (lay : Layout) (fs : List Formula) (i n : ℕ) (K : List (List Lit)) (k : ℕ) (L : List (List Lit)) → length fs ≤ i →
+    Adds lay.base [] (λ v. All (λ f. IsMetBy u lay f [] v) (take i fs)) n K k L → Adds lay.base [] (λ v. All (λ f. IsMetBy u lay f [] v) fs) n K k L
+claims-all u lay fs i n K k L le h = adds_same lay.base [] (λ v. All (λ f. IsMetBy u lay f [] v) (take i fs)) (λ v. All (λ f. IsMetBy u lay f [] v) fs) n K k L
+    (λ v m. subst (All (λ f. IsMetBy u lay f [] v)) (take_all i fs le) m) (λ v m. subst (All (λ f. IsMetBy u lay f [] v)) (sym (take_all i fs le)) m) h

@@ -2,7 +2,6 @@
 use Rattle.std.proofs.Common.{◌≡◌, ℕ, zero, suc, Bool, ◌+◌, ◌<◌, ◌≤◌, ◌⊎◌, inl, inr, List, [], ◌∷◌, length, get_or, refl, sym, ap, ◌∙◌, arith}
 use Rattle.std.proofs.Math.ListN.{set}
 use Rattle.std.proofs.lemmas.List.Elements.{AllZip-get_or}
-use Rattle.fo_core.specs.declared.signature.Sig.{Sig}
 use Rattle.fo_core.specs.Tables.{symbol_at}
 use Rattle.fo_terms.specs.declared.terms.Ground.{Ground}
 use Rattle.fo_terms.specs.declared.terms.Universe.{Universe}
@@ -12,7 +11,7 @@ use Rattle.fo_ground.specs.declared.grounded.Atom.TheVariants.{Same, Fact, Helpe
 use Rattle.fo_ground.specs.Axioms.{IsChangedAtom, AreChangedFacts}
 use Rattle.fo_ground.specs.Grounds.{IsShaped}
 use Rattle.fo_ground.specs.declared.layout.Layout.{Layout}
-use Rattle.fo_ground.specs.Layout.{slot, first_of, size_of, IsReady}
+use Rattle.fo_ground.specs.Layout.{slot, first_of, size_of, IsLaidOut}
 use Rattle.fo_ground.proofs.FactLemmas.{sort-lt}
 use Rattle.fo_ground.proofs.FromWorld.{AreOf-set}
 
@@ -38,14 +37,14 @@ set-length [] i p = refl
 set-length (x ∷ xs) zero p = refl
 set-length (x ∷ xs) (suc i) p = ap suc (set-length xs i p)
 
-module _ (u : Universe) (lay : Layout) (sig : Sig) (copies base : ℕ) (r : IsReady u lay sig copies base) where
+module _ (u : Universe) (lay : Layout) (r : IsLaidOut u lay) where
   -- a tuple of arguments, with one that is changed to another of its sort
   module _ (args ss : List ℕ) (of : AreOf u.terms args ss) (i : ℕ) (lt : i < length args) where
     pub arg-of : IsOf u.terms (get_or ss i 0) (get_or args i 0)
     arg-of = AllZip-get_or (λ p s. IsOf u.terms s p) args ss i 0 0 of lt
 
-    pub arg-sort : get_or ss i 0 < sig.sorts
-    arg-sort = sort-lt u lay sig copies base r (get_or ss i 0) (get_or args i 0) arg-of
+    pub arg-sort : get_or ss i 0 < lay.sig.sorts
+    arg-sort = sort-lt u lay r (get_or ss i 0) (get_or args i 0) arg-of
 
     -- what stands behind the argument in the block of its sort
     pub later-of : (p first size : ℕ) → first ≡ first_of u lay (get_or ss i 0) → size ≡ size_of u lay (get_or ss i 0) → get_or args i 0 + 1 ≤ p → p < first + size → IsOf u.terms (get_or ss i 0) p
@@ -56,21 +55,21 @@ module _ (u : Universe) (lay : Layout) (sig : Sig) (copies base : ℕ) (r : IsRe
     pub changed-of : (p : ℕ) → IsOf u.terms (get_or ss i 0) p → AreOf u.terms (set args i p) ss
     changed-of p at = AreOf-set u.terms args ss i p of lt at
 
-  module _ (is : IsUniverse sig copies u.terms) (t : ℕ) (below : t < length u.terms) (i : ℕ) (lt : i < length (term_at u.terms t).args) where
+  module _ (is : IsUniverse lay.sig lay.copies u.terms) (t : ℕ) (below : t < length u.terms) (i : ℕ) (lt : i < length (term_at u.terms t).args) where
     -- what has an argument is an application
-    pub applied : IsApplied sig copies u.terms t
+    pub applied : IsApplied lay.sig lay.copies u.terms t
     applied = by_kind (is.grounded t below)
       where
-        by_kind : IsSpare (term_at u.terms t) ⊎ IsApplied sig copies u.terms t → IsApplied sig copies u.terms t
+        by_kind : IsSpare (term_at u.terms t) ⊎ IsApplied lay.sig lay.copies u.terms t → IsApplied lay.sig lay.copies u.terms t
         by_kind (inl s) = absurd (omega (arith, lt, ap length s.2))
         by_kind (inr a) = a
 
     -- and so it is with the argument changed
-    pub other-of : (p : ℕ) → IsOf u.terms (get_or (symbol_at sig (term_at u.terms t).symbol).args i 0) p →
-        IsOf u.terms (sort_at u.terms t) (slot u lay sig (term_at u.terms t).symbol (term_at u.terms t).copy (set (term_at u.terms t).args i p))
+    pub other-of : (p : ℕ) → IsOf u.terms (get_or (symbol_at lay.sig (term_at u.terms t).symbol).args i 0) p →
+        IsOf u.terms (sort_at u.terms t) (slot u lay (term_at u.terms t).symbol (term_at u.terms t).copy (set (term_at u.terms t).args i p))
     other-of p at =
         let g = term_at u.terms t in
-        let f = r.places g.symbol g.copy (set g.args i p) applied.symbol (changed-of g.args (symbol_at sig g.symbol).args applied.args i lt p at) in
+        let f = r.places g.symbol g.copy (set g.args i p) applied.symbol (changed-of g.args (symbol_at lay.sig g.symbol).args applied.args i lt p at) in
         (f.0, ap (λ (x : Ground). x.sort) f.1 ∙ sym applied.sort)
 
 pub any-default : {A : Type 0} (xs : List A) (k : ℕ) (d e : A) → k < length xs → get_or xs k d ≡ get_or xs k e

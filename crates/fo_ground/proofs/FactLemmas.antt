@@ -5,7 +5,6 @@ use Rattle.std.specs.Prelude.{slice_index}
 use Rattle.std.proofs.Math.ListN.{drop_of_length-le}
 use Rattle.std.proofs.lemmas.List.{get_or-map, length-map}
 use Rattle.std.proofs.lemmas.List.Elements.{All-nil, All-cons, All-drop, AllZip-get_or, length_all_zip}
-use Rattle.fo_core.specs.declared.signature.Sig.{Sig}
 use Rattle.fo_core.specs.Tables.{symbol_at, tuples, place}
 use Rattle.fo_core.specs.Sorted.{IsSymbol}
 use Rattle.fo_core.proofs.TableLemmas.{tuples-positive}
@@ -13,7 +12,7 @@ use Rattle.fo_core.proofs.ValueLemmas.{horner, horner-le}
 use Rattle.fo_terms.specs.declared.terms.Universe.{Universe}
 use Rattle.fo_terms.specs.Universe.{IsOf, AreOf}
 use Rattle.fo_ground.specs.declared.layout.Layout.{Layout}
-use Rattle.fo_ground.specs.Layout.{first_of, size_of, locals, same_var, IsReady}
+use Rattle.fo_ground.specs.Layout.{first_of, size_of, locals, same_var, IsLaidOut}
 
 positive : (xs ns : List ℕ) → AllZip (λ x n. x < n) xs ns → All (λ n. 1 ≤ n) ns
 positive [] [] h = All-nil (λ n. 1 ≤ n)
@@ -24,9 +23,9 @@ positive (x ∷ xs) (n ∷ ns) h = All-cons (λ n. 1 ≤ n) n ns (omega (arith, 
 pub below_size : (p first size : ℕ) → first ≤ p → p < first + size → p - first < size
 below_size p first size ge lt = omega arith
 
-module _ (u : Universe) (lay : Layout) (sig : Sig) (copies base : ℕ) (r : IsReady u lay sig copies base) where
-  pub sort-lt : (s p : ℕ) → IsOf u.terms s p → s < sig.sorts
-  sort-lt s p of = subst (λ s. s < sig.sorts) of.1 (r.sorts p of.0)
+module _ (u : Universe) (lay : Layout) (r : IsLaidOut u lay) where
+  pub sort-lt : (s p : ℕ) → IsOf u.terms s p → s < lay.sig.sorts
+  sort-lt s p of = subst (λ s. s < lay.sig.sorts) of.1 (r.sorts p of.0)
 
   pub in_block : (s p : ℕ) → IsOf u.terms s p → (first_of u lay s ≤ p) × (p < first_of u lay s + size_of u lay s)
   in_block s p of = (r.blocks s p (sort-lt s p of)).0 of
@@ -49,9 +48,9 @@ module _ (u : Universe) (lay : Layout) (sig : Sig) (copies base : ℕ) (r : IsRe
   locals-lt (p ∷ ps) [] h = absurd h
   locals-lt (p ∷ ps) (s ∷ ss) h = let b = in_block s p h.0 in (below_size p (first_of u lay s) (size_of u lay s) b.0 b.1, locals-lt ps ss h.1)
 
-  module _ (relation : Bool) (k c : ℕ) (ps : List ℕ) (is : IsSymbol sig copies relation k c) (of : AreOf u.terms ps (symbol_at sig k).args) where
+  module _ (relation : Bool) (k c : ℕ) (ps : List ℕ) (is : IsSymbol lay.sig lay.copies relation k c) (of : AreOf u.terms ps (symbol_at lay.sig k).args) where
     abbrev ss : List ℕ
-    ss = (symbol_at sig k).args
+    ss = (symbol_at lay.sig k).args
 
     abbrev sizes : List ℕ
     sizes = map (size_of u lay) ss
@@ -69,7 +68,7 @@ module _ (u : Universe) (lay : Layout) (sig : Sig) (copies base : ℕ) (r : IsRe
     pub of-at : (i : ℕ) → i < length ps → IsOf u.terms (get_or ss i 0) (get_or ps i 0)
     of-at i lt = AllZip-get_or (λ p s. IsOf u.terms s p) ps ss i 0 0 of lt
 
-    pub block-at : (i : ℕ) → i < length ps → (get_or ss i 0 < sig.sorts) × (first_of u lay (get_or ss i 0) ≤ get_or ps i 0) × (get_or ps i 0 < first_of u lay (get_or ss i 0) + size_of u lay (get_or ss i 0))
+    pub block-at : (i : ℕ) → i < length ps → (get_or ss i 0 < lay.sig.sorts) × (first_of u lay (get_or ss i 0) ≤ get_or ps i 0) × (get_or ps i 0 < first_of u lay (get_or ss i 0) + size_of u lay (get_or ss i 0))
     block-at i lt = let o = of-at i lt in let b = in_block (get_or ss i 0) (get_or ps i 0) o in (sort-lt (get_or ss i 0) (get_or ps i 0) o, b.0, b.1)
 
     pub slot-lt : slice_index lay.starts k + (c * tuples sizes + place sizes ls) < 2 ^ 32

@@ -9,7 +9,7 @@ use Rattle.fo_core.specs.Tables.{symbol_at}
 use Rattle.fo_core.specs.Sorted.{IsSymbol, IsSig}
 use Rattle.prop_core.specs.Formula.{MeetsAll}
 use Rattle.fo_norm.specs.declared.form.SkolemForm.{SkolemForm}
-use Rattle.fo_norm.specs.Forms.{IsForm, MeetsForm}
+use Rattle.fo_norm.specs.Forms.{whole, IsForm, MeetsForm}
 use Rattle.fo_terms.specs.declared.terms.Ground.{Ground}
 use Rattle.fo_terms.specs.declared.terms.Universe.{Universe}
 use Rattle.fo_terms.specs.Universe.{IsOf, AreOf, IsTermOf, IsUniverse}
@@ -19,10 +19,10 @@ use Rattle.fo_ground.specs.declared.grounded.Grounded.{Grounded}
 use Rattle.fo_ground.specs.declared.layout.Layout.{Layout}
 use Rattle.fo_ground.specs.Classes.{IsNaming, class_world}
 use Rattle.fo_ground.specs.Layout.{slot, same_var, same_by, fact_by}
-use Rattle.fo_ground.specs.Grounds.{form_layout, IsGrounded}
+use Rattle.fo_ground.specs.Grounds.{form_layout, AreMetBy, IsGrounded}
 use Rattle.fo_ground.proofs.ClassWorld.{IsBasis}
 use Rattle.fo_ground.proofs.FactLemmas.{same_var-sym}
-use Rattle.fo_ground.proofs.Models.{whole, sig-whole, from_values, world-naming, world-met}
+use Rattle.fo_ground.proofs.Models.{sig-whole, from_values, world-naming, world-met}
 use Rattle.fo_ground.proofs.Models.{reads as reads_in, m as named_in}
 
 -- a naming only depends on the atoms of well-sorted terms
@@ -51,36 +51,36 @@ same_bools false false f g = refl
 eqb-sym : (a b : ℕ) → (a == b) ≡ (b == a)
 eqb-sym a b = same_bools (a == b) (b == a) (λ t. (Decides-eqb b a).1 (sym ((Decides-eqb a b).0 t))) (λ t. (Decides-eqb a b).1 (sym ((Decides-eqb b a).0 t)))
 
-module _ (sig : Sig) (form : SkolemForm) (u : Universe) (g : Grounded) (sorts : IsSig sig) (is : IsForm sig form) (universe : IsUniverse (whole sig form) form.copies u.terms)
+module _ (sig : Sig) (form : SkolemForm) (u : Universe) (sorts : IsSig sig) (is : IsForm sig form) (universe : IsUniverse (whole sig form) form.copies u.terms)
     (places : (f c : ℕ) (args : List ℕ) → IsSymbol (whole sig form) form.copies false f c → AreOf u.terms args (symbol_at (whole sig form) f).args →
-    IsTermOf (whole sig form) form.copies u.terms f c args (slot u (form_layout sig form u) (whole sig form) f c args))
-    (grounded : IsGrounded sig form u g) where
+    IsTermOf (whole sig form) form.copies u.terms f c args (slot u (form_layout sig form u) f c args)) where
   abbrev lay : Layout
   lay = form_layout sig form u
 
   abbrev at : ℕ → ℕ → List ℕ → ℕ
-  at = slot u lay (whole sig form)
+  at = slot u lay
 
-  -- the variable of an equation says that the values are equal
-  either_order : (reads : ℕ → ℕ → List ℕ → ℕ) (m : ℕ → ℕ) (s p q : ℕ) → IsOf u.terms s p → IsOf u.terms s q → (q < p) ⊎ (p ≤ q) → atom_truth reads m (get_or g.atoms (same_var u lay p q) Helper) ≡ (m p == m q)
-  unfolding atom_truth
-  either_order reads m s p q b c (inr le) = ap (atom_truth reads m) (grounded.listed.same s p q b c le)
-  either_order reads m s p q b c (inl lt) =
-      ap (λ x. atom_truth reads m (get_or g.atoms x Helper)) (same_var-sym u lay p q) ∙ ap (atom_truth reads m) (grounded.listed.same s q p c b (omega arith)) ∙ eqb-sym (m q) (m p)
+  module _ (g : Grounded) (grounded : IsGrounded sig form u g) where
+    -- the variable of an equation says that the values are equal
+    either_order : (reads : ℕ → ℕ → List ℕ → ℕ) (m : ℕ → ℕ) (s p q : ℕ) → IsOf u.terms s p → IsOf u.terms s q → (q < p) ⊎ (p ≤ q) → atom_truth reads m (get_or g.atoms (same_var u lay p q) Helper) ≡ (m p == m q)
+    unfolding atom_truth
+    either_order reads m s p q b c (inr le) = ap (atom_truth reads m) (grounded.listed.same s p q b c le)
+    either_order reads m s p q b c (inl lt) =
+        ap (λ x. atom_truth reads m (get_or g.atoms x Helper)) (same_var-sym u lay p q) ∙ ap (atom_truth reads m) (grounded.listed.same s q p c b (omega arith)) ∙ eqb-sym (m q) (m p)
 
-  -- a world that meets the form gives values that meet the clauses
-  pub world-values : (w : World) → MeetsForm sig form w → (v : ℕ → Bool) × MeetsAll v g.cnf.clauses
-  unfolding atom_truth
-  world-values w meets =
-      let reads = reads_in u.terms at sig form w is universe places meets in
-      let m = named_in u.terms at sig form w is universe places meets in
-      let a = λ (x : ℕ). atom_truth reads m (get_or g.atoms x Helper) in
-      let naming = naming-agrees u.terms at (λ p q. m p == m q) (same_by u lay (whole sig form) a) (λ r c ps. reads c r (map m ps) == 1) (fact_by u lay (whole sig form) a)
-      (whole sig form) form.copies w.sizes reads m
-      (λ s p q b c. either_order reads m s p q b c (cases_lt q p))
-      (λ r c ps i of. ap (atom_truth reads m) (grounded.listed.facts r c ps i of))
-      (world-naming u.terms at sig form w is universe places meets) in
-      grounded.complete a (world-met u.terms at sig form w is universe places meets (same_by u lay (whole sig form) a) (fact_by u lay (whole sig form) a) naming)
+    -- a world that meets the form gives values that meet the clauses
+    pub world-values : (w : World) → MeetsForm sig form w → (v : ℕ → Bool) × MeetsAll v g.cnf.clauses
+    unfolding atom_truth
+    world-values w meets =
+        let reads = reads_in u.terms at sig form w is universe places meets in
+        let m = named_in u.terms at sig form w is universe places meets in
+        let a = λ (x : ℕ). atom_truth reads m (get_or g.atoms x Helper) in
+        let naming = naming-agrees u.terms at (λ p q. m p == m q) (same_by u lay a) (λ r c ps. reads c r (map m ps) == 1) (fact_by u lay a)
+        (whole sig form) form.copies w.sizes reads m
+        (λ s p q b c. either_order reads m s p q b c (cases_lt q p))
+        (λ r c ps i of. ap (atom_truth reads m) (grounded.listed.facts r c ps i of))
+        (world-naming u.terms at sig form w is universe places meets) in
+        grounded.complete a (world-met u.terms at sig form w is universe places meets (same_by u lay a) (fact_by u lay a) naming)
 
   basis : IsBasis u.terms at (whole sig form) form.copies
   basis = record {
@@ -91,6 +91,6 @@ module _ (sig : Sig) (form : SkolemForm) (u : Universe) (g : Grounded) (sorts : 
     some_copy = is.copies;
   }
 
-  -- the quotient world of values that meet the clauses meets the form
-  pub values-world : (v : ℕ → Bool) → MeetsAll v g.cnf.clauses → MeetsForm sig form (class_world u.terms at (same_by u lay (whole sig form) v) (fact_by u lay (whole sig form) v) sig form.copies)
-  values-world v meets = from_values u.terms at (same_by u lay (whole sig form) v) (fact_by u lay (whole sig form) v) sig form sorts is basis (grounded.sound v meets)
+  -- the quotient world of values that meet the axioms and instances meets the form
+  pub values-world : (v : ℕ → Bool) → AreMetBy sig form u v → MeetsForm sig form (class_world u.terms at (same_by u lay v) (fact_by u lay v) sig form.copies)
+  values-world v meets = from_values u.terms at (same_by u lay v) (fact_by u lay v) sig form sorts is basis meets

@@ -21,6 +21,7 @@ pub mod AxiomLemmas
 pub mod CongruenceLemmas
 pub mod AtomShapes
 pub mod StartLemmas
+pub mod StartSteps
 pub mod ArgumentLemmas
 pub mod ReadLemmas
 pub mod EqualityLemmas

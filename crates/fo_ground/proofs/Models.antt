@@ -15,9 +15,8 @@ use Rattle.fo_core.specs.Truth.{Truth, reading}
 use Rattle.fo_core.specs.Sorted.{IsSymbol, HasSorts, IsSig}
 use Rattle.fo_core.proofs.ValueLemmas.{entry-lt}
 use Rattle.fo_norm.specs.declared.form.SkolemForm.{SkolemForm}
-use Rattle.fo_core.specs.Skolems.{extended}
 use Rattle.fo_norm.specs.Extended.{with_tables}
-use Rattle.fo_norm.specs.Forms.{IsSkolem, IsForm, MeetsWith, MeetsForm}
+use Rattle.fo_norm.specs.Forms.{whole, IsSkolem, IsForm, MeetsWith, MeetsForm}
 use Rattle.fo_terms.specs.declared.terms.Ground.{Ground}
 use Rattle.fo_terms.specs.Universe.{IsOf, AreOf, spare, IsTermOf, IsUniverse}
 use Rattle.fo_ground.specs.Instances.{IsEquality, AreMet}
@@ -27,10 +26,6 @@ use Rattle.fo_ground.proofs.Transfer.{truth-named}
 use Rattle.fo_ground.proofs.ClassTables.{class_tables-are}
 use Rattle.fo_ground.proofs.ClassWorld.{IsBasis, naming, named, fits, table-is}
 use Rattle.fo_ground.proofs.FromWorld.{met-named, closed-places, naming-values}
-
--- the signature with the Skolem functions
-abbrev pub whole : Sig → SkolemForm → Sig
-whole sig form = extended sig form.skolems
 
 map-each : {X Y : Type 0} (f g : X → Y) (xs : List X) → ((x : X) → f x ≡ g x) → map f xs ≡ map g xs
 map-each f g [] h = refl

@@ -103,7 +103,7 @@ module _ (sig : Sig) (copies : ℕ) (u : Universe) (is : IsUniverse sig copies u
   start-is k lt = get_or-map-range_with_len (symbol_start sig copies u) 0 (length sig.symbols) k k 0 lt (omega arith)
 
   pub fact-at : (r c : ℕ) (ps : List ℕ) → IsSymbol sig copies true r c → AreOf u.terms ps (symbol_at sig r).args →
-      (slot u lay sig r c ps < length (atoms_of sig copies u)) × (get_or (atoms_of sig copies u) (slot u lay sig r c ps) Helper ≡ Fact r c ps)
+      (slot u lay r c ps < length (atoms_of sig copies u)) × (get_or (atoms_of sig copies u) (slot u lay r c ps) Helper ≡ Fact r c ps)
   fact-at r c ps s of =
       let ss = (symbol_at sig r).args in
       let ns = map count ss in
@@ -127,7 +127,7 @@ module _ (sig : Sig) (copies : ℕ) (u : Universe) (is : IsUniverse sig copies u
       ∙ ap (λ (qs : List ℕ). Fact r c qs) (raised-locals ps ss of) in
       let before = length (flat_map f (take r (range_with_len 0 n))) in
       let lies : slice_index lay.starts r ≡ fact_start sig copies u r = start-is r s.within ∙ ap (λ b. cond b (fact_start sig copies u r) (term_start sig copies u r)) s.kind in
-      let sum : slot u lay sig r c ps ≡ length (rows sig copies u) + (before + j) = ap (λ x. x + j) lies ∙ (let z : fact_start sig copies u r + j ≡ length (rows sig copies u) + (before + j) = omega arith in z) in
+      let sum : slot u lay r c ps ≡ length (rows sig copies u) + (before + j) = ap (λ x. x + j) lies ∙ (let z : fact_start sig copies u r + j ≡ length (rows sig copies u) + (before + j) = omega arith in z) in
       let rest = flat_map f (range_with_len 0 n) in (
         subst (λ x. x < length (atoms_of sig copies u)) (sym sum) (omega (arith, lt, length-append (rows sig copies u) rest)),
         ap (λ x. get_or (atoms_of sig copies u) x Helper) sum
@@ -136,8 +136,8 @@ module _ (sig : Sig) (copies : ℕ) (u : Universe) (is : IsUniverse sig copies u
       )
 
   -- helpers behind the atoms move none of them
-  pub listed : (helpers : List Atom) → IsListed sig copies u lay (atoms_of sig copies u ++ helpers)
+  pub listed : (helpers : List Atom) → IsListed u lay (atoms_of sig copies u ++ helpers)
   listed helpers = record {
     same = λ s p q a b le. let r = same-at s p q a b le in get_or_append_left (atoms_of sig copies u) helpers Helper (same_var u lay p q) r.0 ∙ r.1;
-    facts = λ k c ps s of. let r = fact-at k c ps s of in get_or_append_left (atoms_of sig copies u) helpers Helper (slot u lay sig k c ps) r.0 ∙ r.1;
+    facts = λ k c ps s of. let r = fact-at k c ps s of in get_or_append_left (atoms_of sig copies u) helpers Helper (slot u lay k c ps) r.0 ∙ r.1;
   }

@@ -35,15 +35,15 @@ beq-other false true n = refl
 module _ (u : Universe) (lay : Layout) (v : ℕ → Bool) where
   -- no more first terms than terms
   pub heads_by-few : (s : ℕ) → length (heads_by u lay v s) ≤ length u.terms
-  heads_by-few s = heads-few u.terms (slot u lay lay.sig) (same_by u lay lay.sig v) (fact_by u lay lay.sig v) s (length u.terms)
+  heads_by-few s = heads-few u.terms (slot u lay) (same_by u lay v) (fact_by u lay v) s (length u.terms)
 
   -- the first terms of classes with these numbers are terms of the sorts
-  pub heads_at-sorted : (ss xs : List ℕ) → AllZip (λ x n. x < n) xs (map (count_by u lay v) ss) → AreOf u.terms (heads_at u.terms (slot u lay lay.sig) (same_by u lay lay.sig v) (fact_by u lay lay.sig v) ss xs) ss
+  pub heads_at-sorted : (ss xs : List ℕ) → AllZip (λ x n. x < n) xs (map (count_by u lay v) ss) → AreOf u.terms (heads_at u.terms (slot u lay) (same_by u lay v) (fact_by u lay v) ss xs) ss
   heads_at-sorted [] [] h = tt
   heads_at-sorted [] (x ∷ xs) h = absurd h
   heads_at-sorted (s ∷ ss) [] h = absurd h
   heads_at-sorted (s ∷ ss) (x ∷ xs) h = (
-    heads-sorted u.terms (slot u lay lay.sig) (same_by u lay lay.sig v) (fact_by u lay lay.sig v) s (length u.terms) (omega arith) x 0 h.0,
+    heads-sorted u.terms (slot u lay) (same_by u lay v) (fact_by u lay v) s (length u.terms) (omega arith) x 0 h.0,
     heads_at-sorted ss xs h.1,
   )
 
@@ -68,7 +68,7 @@ module _ (u : Universe) (lay : Layout) (v : ℕ → Bool) where
     sizes-are (s ∷ ss) h =
         ap (λ n. n ∷ map (slice_index c.sizes) ss) (size-at s (All-head (λ s. s < lay.sig.sorts) s ss h)) ∙ ap (λ ns. count_by u lay v s ∷ ns) (sizes-are ss (All-tail (λ s. s < lay.sig.sorts) s ss h))
 
-    pub picked-are : (ss xs : List ℕ) → All (λ s. s < lay.sig.sorts) ss → picked c.heads ss xs ≡ heads_at u.terms (slot u lay lay.sig) (same_by u lay lay.sig v) (fact_by u lay lay.sig v) ss xs
+    pub picked-are : (ss xs : List ℕ) → All (λ s. s < lay.sig.sorts) ss → picked c.heads ss xs ≡ heads_at u.terms (slot u lay) (same_by u lay v) (fact_by u lay v) ss xs
     picked-are [] xs h = refl
     picked-are (s ∷ ss) [] h = refl
     picked-are (s ∷ ss) (x ∷ xs) h =

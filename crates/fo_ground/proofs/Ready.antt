@@ -12,7 +12,7 @@ use Rattle.fo_terms.specs.Arranged.{place_of as placed_at}
 use Rattle.fo_core.specs.TermCounts.{term_counts}
 use Rattle.fo_terms.specs.Universe.{IsOf, AreOf, IsTermOf, IsUniverse}
 use Rattle.fo_ground.specs.declared.layout.Layout.{Layout}
-use Rattle.fo_ground.specs.Layout.{slot, same_var, locals, IsReady}
+use Rattle.fo_ground.specs.Layout.{slot, same_var, locals, IsLaidOut}
 use Rattle.fo_ground.specs.Numbers.{count_of, first_at, fact_start, term_start, symbol_start, row_start, atoms_of, layout_of}
 use Rattle.fo_ground.proofs.Numbering.{in_block, same-at, start-is, fact-at}
 use Rattle.fo_ground.proofs.FactLemmas.{same_var-sym}
@@ -28,12 +28,12 @@ module _ (sig : Sig) (copies : ℕ) (u : Universe) (is : IsUniverse sig copies u
   lay = layout_of sig copies u
 
   -- a function's slot is the place of its ground term
-  pub place-is : (f c : ℕ) (args : List ℕ) → IsSymbol sig copies false f c → AreOf u.terms args (symbol_at sig f).args → IsTermOf sig copies u.terms f c args (slot u lay sig f c args)
+  pub place-is : (f c : ℕ) (args : List ℕ) → IsSymbol sig copies false f c → AreOf u.terms args (symbol_at sig f).args → IsTermOf sig copies u.terms f c args (slot u lay f c args)
   place-is f c args s of =
       let lies : slice_index lay.starts f ≡ term_start sig copies u f = start-is sig copies u is arranged f s.within ∙ ap (λ b. cond b (fact_start sig copies u f) (term_start sig copies u f)) s.kind in
       let ns = map (count_of sig copies u) (symbol_at sig f).args in
       let rest = c * tuples ns + place ns (locals u lay (symbol_at sig f).args args) in
-      let e : placed_at sig copies u.firsts f c args ≡ slot u lay sig f c args =
+      let e : placed_at sig copies u.firsts f c args ≡ slot u lay f c args =
       regroup (first_at sig copies u (symbol_at sig f).result) (earlier_applications sig copies f) rest ∙ ap (λ x. x + rest) (sym lies) in
       subst (IsTermOf sig copies u.terms f c args) e (arranged.placed f c args s of)
 
@@ -52,7 +52,7 @@ module _ (sig : Sig) (copies : ℕ) (u : Universe) (is : IsUniverse sig copies u
       let of = (arranged.blocks s (first_at sig copies u s + count_of sig copies u s - 1) lt).1 (last.0, last.1) in
       subst (λ n. n ≤ length u.terms) last.2 (omega (arith, of.0))
 
-  pub ready : length (atoms_of sig copies u) < 2 ^ 32 → IsReady u (layout_of sig copies u) sig copies (length (atoms_of sig copies u))
+  pub ready : length (atoms_of sig copies u) < 2 ^ 32 → IsLaidOut u (layout_of sig copies u)
   ready few = record {
     places = place-is;
     sorts = is.sorts;
@@ -69,6 +69,6 @@ module _ (sig : Sig) (copies : ℕ) (u : Universe) (is : IsUniverse sig copies u
     few = few;
   }
     where
-      slot-below : (r : Bool) (k c : ℕ) (ps : List ℕ) → IsSymbol sig copies r k c → AreOf u.terms ps (symbol_at sig k).args → slot u lay sig k c ps < 2 ^ 32
+      slot-below : (r : Bool) (k c : ℕ) (ps : List ℕ) → IsSymbol sig copies r k c → AreOf u.terms ps (symbol_at sig k).args → slot u lay k c ps < 2 ^ 32
       slot-below true k c ps s of = omega (arith, (fact-at sig copies u is arranged k c ps s of).0, few)
       slot-below false k c ps s of = omega (arith, (place-is k c ps s of).0, few_terms)

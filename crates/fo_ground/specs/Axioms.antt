@@ -24,7 +24,7 @@ module _ (u : Universe) (lay : Layout) where
 
   -- a relation that is true of arguments is true where the one at i is changed to the term at p, if these are the same
   abbrev pub IsFactChangedTo : ℕ → ℕ → List ℕ → ℕ → ℕ → (ℕ → Bool) → Type 0
-  IsFactChangedTo r c args i p v = v (same_var u lay (slice_index args i) p) ≡ true → v (slot u lay lay.sig r c args) ≡ true → v (slot u lay lay.sig r c (slice_set args i p)) ≡ true
+  IsFactChangedTo r c args i p v = v (same_var u lay (slice_index args i) p) ≡ true → v (slot u lay r c args) ≡ true → v (slot u lay r c (slice_set args i p)) ≡ true
 
   abbrev pub IsChangedFact : ℕ → ℕ → List ℕ → ℕ → (ℕ → Bool) → Type 0
   IsChangedFact r c args i v = (p : ℕ) → IsOf u.terms (slice_index (symbol_at lay.sig r).args i) p → IsFactChangedTo r c args i p v
@@ -43,7 +43,7 @@ module _ (u : Universe) (lay : Layout) where
   -- the term at t is the same where its argument at i is changed to the term at p, if these are the same
   abbrev pub IsChangedTo : ℕ → ℕ → ℕ → (ℕ → Bool) → Type 0
   IsChangedTo t i p v = v (same_var u lay (slice_index (term_at u.terms t).args i) p) ≡ true →
-      v (same_var u lay t (slot u lay lay.sig (term_at u.terms t).symbol (term_at u.terms t).copy (slice_set (term_at u.terms t).args i p))) ≡ true
+      v (same_var u lay t (slot u lay (term_at u.terms t).symbol (term_at u.terms t).copy (slice_set (term_at u.terms t).args i p))) ≡ true
 
   -- where it is changed to a later one
   abbrev pub IsChangedTerm : ℕ → ℕ → (ℕ → Bool) → Type 0

@@ -17,32 +17,32 @@ use Rattle.fo_core.specs.Tuples.{tuple_at}
 module _ (u : Universe) (lay : Layout) (v : ℕ → Bool) where
   -- the first terms of the classes of a sort
   abbrev pub heads_by : ℕ → List ℕ
-  heads_by = heads_of u.terms (slot u lay lay.sig) (same_by u lay lay.sig v) (fact_by u lay lay.sig v)
+  heads_by = heads_of u.terms (slot u lay) (same_by u lay v) (fact_by u lay v)
 
   -- the number of a term's class in its sort
   abbrev pub class_by : ℕ → ℕ
-  class_by = class_of u.terms (slot u lay lay.sig) (same_by u lay lay.sig v) (fact_by u lay lay.sig v)
+  class_by = class_of u.terms (slot u lay) (same_by u lay v) (fact_by u lay v)
 
   -- how many classes a sort has
   abbrev pub count_by : ℕ → ℕ
-  count_by = class_count u.terms (slot u lay lay.sig) (same_by u lay lay.sig v) (fact_by u lay lay.sig v)
+  count_by = class_count u.terms (slot u lay) (same_by u lay v) (fact_by u lay v)
 
   -- the value of a symbol in a copy for these terms
   abbrev pub entry_by : ℕ → ℕ → List ℕ → ℕ
-  entry_by k c ps = cond (symbol_at lay.sig k).relation (bit (v (slot u lay lay.sig k c ps))) (class_by (slot u lay lay.sig k c ps))
+  entry_by k c ps = cond (symbol_at lay.sig k).relation (bit (v (slot u lay k c ps))) (class_by (slot u lay k c ps))
 
   -- the value of a symbol in a copy for the classes in the tuple with this number
   abbrev pub value_by : ℕ → ℕ → ℕ → ℕ
-  value_by c k i = class_entry u.terms (slot u lay lay.sig) (same_by u lay lay.sig v) (fact_by u lay lay.sig v) c k (symbol_at lay.sig k) (tuple_at (map count_by (symbol_at lay.sig k).args) i)
+  value_by c k i = class_entry u.terms (slot u lay) (same_by u lay v) (fact_by u lay v) c k (symbol_at lay.sig k) (tuple_at (map count_by (symbol_at lay.sig k).args) i)
 
   abbrev pub table_by : ℕ → ℕ → Symbol → Table
-  table_by = class_table u.terms (slot u lay lay.sig) (same_by u lay lay.sig v) (fact_by u lay lay.sig v)
+  table_by = class_table u.terms (slot u lay) (same_by u lay v) (fact_by u lay v)
 
   abbrev pub tables_by : Bool → ℕ → ℕ → List Symbol → List Table
-  tables_by = class_tables u.terms (slot u lay lay.sig) (same_by u lay lay.sig v) (fact_by u lay lay.sig v)
+  tables_by = class_tables u.terms (slot u lay) (same_by u lay v) (fact_by u lay v)
 
   abbrev pub world_by : Sig → ℕ → World
-  world_by = class_world u.terms (slot u lay lay.sig) (same_by u lay lay.sig v) (fact_by u lay lay.sig v)
+  world_by = class_world u.terms (slot u lay) (same_by u lay v) (fact_by u lay v)
 
   -- these are the classes
   pub record AreRead (c : Classes) : Type 0 where

@@ -8,9 +8,9 @@ ghost use Rattle.fo_terms.specs.Blocks.{raised};
 ghost use Rattle.fo_core.specs.Tuples.{tuple_at};
 
 use crate::grounded::Atom;
-use crate::layout::{Layout, copies_of, tuples};
+use crate::layout::{Layout, tuples};
 use fo_core::Seq;
-use fo_terms::Universe;
+use fo_terms::{Universe, copies_of};
 use std::alloc::{AllocError, Global};
 
 /// The places of the arguments with this number in lexicographic order. The number has to be below

@@ -194,7 +194,7 @@ pub fn add_claims(
     requires normal { All IsNormal claims.now }
     requires over { lay.now.base ≤ into.old.vars }
     requires within { AreWithin into.old.vars into.old.clauses }
-    ensures { OnOk result (Adds lay.now.base [] (λ v. All (λ f. IsMetBy u.now lay.now lay.now.sig f [] v) claims.now) into.old.vars into.old.clauses into.new.vars into.new.clauses) }
+    ensures { OnOk result (Adds lay.now.base [] (λ v. All (λ f. IsMetBy u.now lay.now f [] v) claims.now) into.old.vars into.old.clauses into.new.vars into.new.clauses) }
 {
     let mut env = Vec::new(alloc);
     'each: for f in claims {

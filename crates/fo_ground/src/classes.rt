@@ -26,7 +26,7 @@ fn class_number(lay: &Layout, u: &Universe, values: &[bool], heads: &[u32], p: u
     requires ready { IsLaidOut u.now lay.now }
     requires sorted { (sort : ℕ) × All (IsOf u.now.terms sort) heads.now × IsOf u.now.terms sort p }
     requires long { lay.now.base ≤ length values.now }
-    ensures { result ≡ position_or_len (λ q. same_by u.now lay.now lay.now.sig (value_of values.now) q p) heads.now }
+    ensures { result ≡ position_or_len (λ q. same_by u.now lay.now (value_of values.now) q p) heads.now }
 {
     'each: for (i, q) in heads.iter().enumerate() {
         if values[same(lay, u, *q, p) as usize] {
@@ -47,7 +47,7 @@ fn heads(
     requires ready { IsLaidOut u.now lay.now }
     requires sort { sort < lay.now.sig.sorts }
     requires long { lay.now.base ≤ length values.now }
-    ensures { IfOk result (λ hs. hs ≡ heads_of u.now.terms (slot u.now lay.now lay.now.sig) (same_by u.now lay.now lay.now.sig (value_of values.now)) (fact_by u.now lay.now lay.now.sig (value_of values.now)) sort) }
+    ensures { IfOk result (λ hs. hs ≡ heads_of u.now.terms (slot u.now lay.now) (same_by u.now lay.now (value_of values.now)) (fact_by u.now lay.now (value_of values.now)) sort) }
 {
     let mut heads = Vec::new(alloc);
     let first = *u.firsts.at(sort as usize);
@@ -70,7 +70,7 @@ fn all_heads(
 ) -> Result<Seq<Seq<u32>>, AllocError>
     requires ready { IsLaidOut u.now lay.now }
     requires long { lay.now.base ≤ length values.now }
-    ensures { IfOk result (λ all. all ≡ map (heads_of u.now.terms (slot u.now lay.now lay.now.sig) (same_by u.now lay.now lay.now.sig (value_of values.now)) (fact_by u.now lay.now lay.now.sig (value_of values.now))) (range_with_len 0 lay.now.sig.sorts)) }
+    ensures { IfOk result (λ all. all ≡ map (heads_of u.now.terms (slot u.now lay.now) (same_by u.now lay.now (value_of values.now)) (fact_by u.now lay.now (value_of values.now))) (range_with_len 0 lay.now.sig.sorts)) }
 {
     let mut all = Vec::with_capacity(alloc, lay.sig.sorts as usize)?;
     'each: for sort in 0..lay.sig.sorts {

@@ -121,7 +121,7 @@ pub fn add_relations(
     into: &mut Builder,
 ) -> Result<(), AllocError>
     requires ready { IsLaidOut u.now lay.now }
-    requires listed { IsListed lay.now.sig lay.now.copies u.now lay.now atoms.now }
+    requires listed { IsListed u.now lay.now atoms.now }
     requires shaped { All (IsShaped lay.now.sig lay.now.copies u.now) atoms.now }
     requires long { length atoms.now ≡ lay.now.base }
     requires over { lay.now.base ≤ into.old.vars }

@@ -27,8 +27,8 @@ fn atom(
     f: &Formula,
 ) -> Result<Option<u32>, AllocError>
     requires ready { IsLaidOut u.now lay.now }
-    requires instance { HasInstance u.now lay.now lay.now.sig lay.now.copies env.now f.now }
-    ensures { IfOk result (λ o. MatchOption o (¬ IsAtom f.now) (λ x. IsVariableOf u.now lay.now lay.now.sig lay.now.base f.now env.now x)) }
+    requires instance { HasInstance u.now lay.now env.now f.now }
+    ensures { IfOk result (λ o. MatchOption o (¬ IsAtom f.now) (λ x. IsVariableOf u.now lay.now f.now env.now x)) }
 {
     match f {
         Formula::Rel(r, d, args) => {
@@ -53,8 +53,8 @@ fn literal(
     f: &Formula,
 ) -> Result<Option<Lit>, AllocError>
     requires ready { IsLaidOut u.now lay.now }
-    requires instance { HasInstance u.now lay.now lay.now.sig lay.now.copies env.now f.now }
-    ensures { IfOk result (λ o. MatchOption o (¬ IsLiteral f.now) (λ l. IsLiteralOf u.now lay.now lay.now.sig lay.now.base f.now env.now l)) }
+    requires instance { HasInstance u.now lay.now env.now f.now }
+    ensures { IfOk result (λ o. MatchOption o (¬ IsLiteral f.now) (λ l. IsLiteralOf u.now lay.now f.now env.now l)) }
 {
     match f {
         Formula::Not(g) => match atom(alloc, lay, u, env, g.get())? {
@@ -88,12 +88,12 @@ pub fn emit(
     into: &mut Builder,
 ) -> Result<(), AllocError>
     requires ready { IsLaidOut u.now lay.now }
-    requires instance { HasInstance u.now lay.now lay.now.sig lay.now.copies env.old.items f.now }
+    requires instance { HasInstance u.now lay.now env.old.items f.now }
     requires normal { IsNormal f.now }
     requires over { lay.now.base ≤ into.old.vars }
     requires within { AreWithin into.old.vars into.old.clauses }
     requires inside { IsWithin into.old.vars prefix.now }
-    ensures added { OnOk result (Adds lay.now.base prefix.now (IsMetBy u.now lay.now lay.now.sig f.now env.old.items) into.old.vars into.old.clauses into.new.vars into.new.clauses) }
+    ensures added { OnOk result (Adds lay.now.base prefix.now (IsMetBy u.now lay.now f.now env.old.items) into.old.vars into.old.clauses into.new.vars into.new.clauses) }
     ensures kept { OnOk result (env.new.items ≡ env.old.items) }
 {
     if let Some(lit) = literal(alloc, lay, u, env.as_slice(), f)? {

@@ -1,15 +1,9 @@
-ghost use Rattle.std.specs.Prelude.{◌≡◌, ◌≤◌, ◌++◌, ℕ, Bool, List, length, IfOk, OnOk};
+ghost use Rattle.std.specs.Prelude.{◌≡◌, ◌≤◌, ◌++◌, ℕ, Bool, length, replicate, IfOk, OnOk};
 ghost use Rattle.fo_core.specs.declared.world.World.{World};
-ghost use Rattle.fo_core.specs.Sorted.{IsSig};
-ghost use Rattle.fo_core.specs.Skolems.{extended};
-ghost use Rattle.fo_norm.specs.Forms.{IsForm, MeetsForm};
-ghost use Rattle.fo_terms.specs.Arranged.{IsArranged};
-ghost use Rattle.fo_core.specs.TermCounts.{term_counts};
-ghost use Rattle.fo_terms.specs.FormWeight.{form_weight};
-ghost use Rattle.fo_terms.specs.Universe.{IsUniverse};
+ghost use Rattle.fo_norm.specs.Forms.{MeetsForm};
 ghost use Rattle.prop_core.specs.Formula.{AreWithin, MeetsAll};
-ghost use Rattle.fo_ground.specs.declared.grounded.Atom.{Atom};
-ghost use Rattle.fo_ground.specs.Grounds.{IsGrounded};
+ghost use Rattle.fo_ground.specs.declared.grounded.Atom.TheVariants.{Helper};
+ghost use Rattle.fo_ground.specs.Grounds.{CanGround, IsGrounded};
 
 use crate::atoms::atoms;
 use crate::axioms::{add_claims, add_equalities};
@@ -23,11 +17,11 @@ use fo_terms::Universe;
 use prop_core::Cnf;
 use std::alloc::{AllocError, Global};
 
-/// Puts helpers behind the atoms, so that each variable below `vars` has one.
+/// Adds helpers after the atoms, so that each variable below `vars` has an atom.
 fn push_helpers(atoms: &mut Vec<Atom>, vars: u32) -> Result<(), AllocError>
     requires { length atoms.old.items ≤ vars }
     ensures length { OnOk result (length atoms.new.items ≡ vars) }
-    ensures behind { OnOk result ((helpers : List Atom) × (atoms.new.items ≡ atoms.old.items ++ helpers)) }
+    ensures helpers { OnOk result ((n : ℕ) × (atoms.new.items ≡ atoms.old.items ++ replicate n Helper)) }
 {
     let first = atoms.len() as u32;
     'each: for _place in first..vars {
@@ -36,31 +30,15 @@ fn push_helpers(atoms: &mut Vec<Atom>, vars: u32) -> Result<(), AllocError>
     Ok(())
 }
 
-/// The clauses of a Skolem form over its ground terms: that being the same is an equality which
-/// functions and relations respect, and each claim's instances under all ground terms.
-///
-/// Some values meet them exactly where some world meets the form (Herbrand's theorem; here over all
-/// finite nonempty domains, which is all domains, as there are finitely many ground terms).
-///
-/// It asks for the form's universe by an order that rises, and that the form weighs at most
-/// 4,000,000. The one error is want of memory; more variables than have numbers of 32 bits are
-/// answered so too.
-pub fn ground(
+/// The clauses of a Skolem form over its ground terms.
+fn grounded(
     alloc: Global,
     sig: &Sig,
     form: &SkolemForm,
     u: &Universe,
 ) -> Result<Grounded, AllocError>
-    requires sig { IsSig sig.now }
-    requires form { IsForm sig.now form.now }
-    requires universe { IsUniverse (extended sig.now form.now.skolems) form.now.copies u.now.terms }
-    requires arranged { IsArranged (extended sig.now form.now.skolems) form.now.copies u.now }
-    requires light { form_weight sig.now form.now (term_counts (extended sig.now form.now.skolems) form.now.copies) ≤ 4000000 }
-    ensures well_formed { IfOk result (λ g. AreWithin g.cnf.vars g.cnf.clauses) }
-    ensures atoms { IfOk result (λ g. length g.atoms ≡ g.cnf.vars) }
-    ensures grounded { IfOk result (λ g. IsGrounded sig.now form.now u.now g) }
-    ensures world_from_values { IfOk result (λ g. (v : ℕ → Bool) → MeetsAll v g.cnf.clauses → (w : World) × MeetsForm sig.now form.now w) }
-    ensures values_from_world { IfOk result (λ g. (w : World) → MeetsForm sig.now form.now w → (v : ℕ → Bool) × MeetsAll v g.cnf.clauses) }
+    requires { CanGround sig.now form.now u.now }
+    ensures { IfOk result (IsGrounded sig.now form.now u.now) }
 {
     let lay = lay_out(alloc, sig, form, u)?;
     let mut atoms = atoms(alloc, &lay, u)?;
@@ -78,4 +56,30 @@ pub fn ground(
         cnf: Cnf { vars, clauses },
         atoms: Seq::from_vec(atoms),
     })
+}
+
+/// The clauses of a Skolem form over its ground terms: that being the same is an equality which
+/// functions and relations respect, and each claim's instances under all ground terms.
+///
+/// Some values meet them exactly where some world meets the form (Herbrand's theorem; here over all
+/// finite nonempty domains, which is all domains, as there are finitely many ground terms).
+///
+/// It asks for the form's universe by an order that rises, and that the form weighs at most
+/// [`fo_core::MOST_WEIGHT`]. The one error is out of memory; more variables than have numbers of 32
+/// bits are reported so too.
+pub fn ground(
+    alloc: Global,
+    sig: &Sig,
+    form: &SkolemForm,
+    u: &Universe,
+) -> Result<Grounded, AllocError>
+    requires { CanGround sig.now form.now u.now }
+    ensures well_formed { IfOk result (λ g. AreWithin g.cnf.vars g.cnf.clauses) }
+    ensures atoms { IfOk result (λ g. length g.atoms ≡ g.cnf.vars) }
+    ensures grounded { IfOk result (λ g. IsGrounded sig.now form.now u.now g) }
+    ensures world_from_values { IfOk result (λ g. (v : ℕ → Bool) → MeetsAll v g.cnf.clauses → (w : World) × MeetsForm sig.now form.now w) }
+    ensures values_from_world { IfOk result (λ g. (w : World) → MeetsForm sig.now form.now w → (v : ℕ → Bool) × MeetsAll v g.cnf.clauses) }
+{
+    let grounded = grounded(alloc, sig, form, u)?;
+    Ok(grounded)
 }

@@ -1,46 +1,38 @@
-ghost use Rattle.std.specs.Prelude.{◌≡◌, ◌<◌, ◌^◌, IfOk};
-ghost use Rattle.fo_core.specs.Sorted.{IsSig};
-ghost use Rattle.fo_core.specs.Skolems.{extended};
-ghost use Rattle.fo_norm.specs.Forms.{IsForm};
-ghost use Rattle.fo_terms.specs.Arranged.{IsArranged};
-ghost use Rattle.fo_core.specs.TermCounts.{term_counts};
-ghost use Rattle.fo_terms.specs.FormWeight.{AreFew};
-ghost use Rattle.fo_terms.specs.Universe.{IsUniverse};
-ghost use Rattle.fo_ground.specs.Numbers.{layout_of};
+ghost use Rattle.std.specs.Prelude.{◌≡◌, IfOk};
+ghost use Rattle.fo_terms.specs.Universe.{IsU32};
+ghost use Rattle.fo_ground.specs.Grounds.{CanGround, form_layout};
 
 use crate::layout::Layout;
-use crate::starts::{Starts, narrow, row_starts, symbol_starts, whole};
+use crate::starts::{Starts, row_starts, symbol_starts, with_skolems};
+use crate::term_starts::{sizes, term_starts};
 use fo_core::{Seq, Sig};
 use fo_norm::SkolemForm;
-use fo_terms::{Places, Universe};
+use fo_terms::Universe;
 use std::alloc::{AllocError, Global};
 
 /// Where the ground terms and atoms of a form lie. More atoms than have numbers of 32 bits are
-/// answered as want of memory.
+/// reported as out of memory.
 pub fn lay_out(
     alloc: Global,
     sig: &Sig,
     form: &SkolemForm,
     u: &Universe,
 ) -> Result<Layout, AllocError>
-    requires sig { IsSig sig.now }
-    requires form { IsForm sig.now form.now }
-    requires universe { IsUniverse (extended sig.now form.now.skolems) form.now.copies u.now.terms }
-    requires arranged { IsArranged (extended sig.now form.now.skolems) form.now.copies u.now }
-    requires few { AreFew (term_counts (extended sig.now form.now.skolems) form.now.copies) }
-    ensures layout { IfOk result (λ lay. lay ≡ layout_of (extended sig.now form.now.skolems) form.now.copies u.now) }
-    ensures small { IfOk result (λ lay. lay.base < 2 ^ 32) }
+    requires { CanGround sig.now form.now u.now }
+    ensures layout { IfOk result (λ lay. lay ≡ form_layout sig.now form.now u.now) }
+    ensures small { IfOk result (λ lay. IsU32 lay.base) }
 {
-    let places = Places::new(alloc, sig, form, u)?;
-    let whole = whole(alloc, sig, form)?;
-    let sizes = narrow(alloc, places.sizes.as_slice())?;
-    let rows = row_starts(alloc, &whole, form.copies, sizes.as_slice(), u)?;
+    let copies = form.copies;
+    let whole = with_skolems(alloc, sig, form)?;
+    let sizes = sizes(alloc, &whole, copies, u)?;
+    let terms = term_starts(alloc, &whole, copies, sizes.as_slice(), u)?;
+    let rows = row_starts(alloc, &whole, copies, sizes.as_slice(), u)?;
     let Starts { starts: same, end } = rows;
     let symbols = symbol_starts(
         alloc,
         &whole,
-        form.copies,
-        &places,
+        copies,
+        terms.as_slice(),
         sizes.as_slice(),
         u,
         end,
@@ -48,7 +40,7 @@ pub fn lay_out(
     let Starts { starts, end: base } = symbols;
     Ok(Layout {
         sig: whole,
-        copies: form.copies,
+        copies,
         base,
         sizes,
         starts: Seq::from_vec(starts),

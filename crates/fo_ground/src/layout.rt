@@ -1,15 +1,14 @@
 ghost use Rattle.std.specs.Prelude.{◌≡◌, ◌<◌, ◌*◌, length, MatchOption, ⊤};
 ghost use Rattle.std.specs.List.{All};
 ghost use Rattle.fo_core.specs.Weights.{power};
-ghost use Rattle.fo_core.specs.TermCounts.{copies_of as copies_in};
 
-use fo_core::{Seq, Sig, Symbol};
+use fo_core::{Seq, Sig};
 
 /// Where ground terms lie in the universe, and where the variables of atoms begin. All of them are
-/// reckoned from symbols and places; nothing is searched.
+/// computed from symbols and places; nothing is searched.
 #[derive(Drop)]
 pub struct Layout {
-    /// The signature with the Skolem functions behind its symbols.
+    /// The signature with the Skolem functions after its own symbols.
     pub sig: Sig,
     /// How many copies the form has.
     pub copies: u32,
@@ -21,15 +20,8 @@ pub struct Layout {
     /// in the universe.
     pub starts: Seq<u32>,
     /// For each place the variable of its equation with itself. Those with the later terms of its
-    /// sort stand behind it.
+    /// sort come after it.
     pub same: Seq<u32>,
-}
-
-/// In how many copies the symbol is read.
-pub fn copies_of(symbol: &Symbol, copies: u32) -> u32
-    ensures { result ≡ copies_in copies symbol.now }
-{
-    if symbol.mutable { copies } else { 1 }
 }
 
 /// The product of `factor` with the number of tuples of terms of these sorts, where it has 32 bits.

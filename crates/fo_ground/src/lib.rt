@@ -18,8 +18,10 @@ mod layout;
 mod place;
 mod starts;
 mod tables;
+mod term_starts;
 mod world;
 
+pub use fo_terms::weight;
 pub use grounded::{Atom, Grounded};
 pub use grounding::ground;
 pub use world::world_of;

@@ -17,7 +17,7 @@ pub fn slot(lay: &Layout, u: &Universe, symbol: u32, copy: u32, places: &[u32]) 
     requires ready { IsLaidOut u.now lay.now }
     requires symbol { (relation : Bool) × IsSymbol lay.now.sig lay.now.copies relation symbol copy }
     requires sorted { AreOf u.now.terms places.now (symbol_at lay.now.sig symbol).args }
-    ensures { result ≡ slot_of u.now lay.now lay.now.sig symbol copy places.now }
+    ensures { result ≡ slot_of u.now lay.now symbol copy places.now }
 {
     let sorts = lay.sig.symbols.at(symbol as usize).args.as_slice();
     let mut tuple = copy;
@@ -39,8 +39,8 @@ pub fn place(
     t: &Term,
 ) -> Result<u32, AllocError>
     requires ready { IsLaidOut u.now lay.now }
-    requires named { HasPlace u.now lay.now lay.now.sig lay.now.copies env.now t.now }
-    ensures { IfOk result (λ p. p ≡ place_of u.now.terms (slot_of u.now lay.now lay.now.sig) t.now env.now) }
+    requires named { HasPlace u.now lay.now env.now t.now }
+    ensures { IfOk result (λ p. p ≡ place_of u.now.terms (slot_of u.now lay.now) t.now env.now) }
 {
     match t {
         Term::Var(i) => Ok(env[*i as usize]),
@@ -61,8 +61,8 @@ pub fn places(
     ts: &[Term],
 ) -> Result<Vec<u32>, AllocError>
     requires ready { IsLaidOut u.now lay.now }
-    requires named { (rs : List ℕ) × HavePlaces u.now lay.now lay.now.sig lay.now.copies env.now ts.now rs }
-    ensures { IfOk result (λ ps. ps.items ≡ map (λ t. place_of u.now.terms (slot_of u.now lay.now lay.now.sig) t env.now) ts.now) }
+    requires named { (rs : List ℕ) × HavePlaces u.now lay.now env.now ts.now rs }
+    ensures { IfOk result (λ ps. ps.items ≡ map (λ t. place_of u.now.terms (slot_of u.now lay.now) t env.now) ts.now) }
 {
     let mut places = Vec::with_capacity(alloc, ts.len())?;
     'each: for t in ts {

@@ -1,17 +1,17 @@
-ghost use Rattle.std.specs.Prelude.{◌≡◌, ◌<◌, ◌^◌, map, length, IfOk};
-ghost use Rattle.std.specs.List.{All, range_with_len};
+ghost use Rattle.std.specs.Prelude.{◌≡◌, ◌<◌, ℕ, false, map, length, slice_index, IfOk};
+ghost use Rattle.std.specs.List.{range_with_len};
 ghost use Rattle.fo_core.specs.Sorted.{IsSig};
-ghost use Rattle.fo_core.specs.Skolems.{extended};
+ghost use Rattle.fo_core.specs.Tables.{symbol_at};
+ghost use Rattle.fo_norm.specs.Forms.{whole};
 ghost use Rattle.fo_terms.specs.Arranged.{IsArranged};
 ghost use Rattle.fo_core.specs.TermCounts.{term_counts};
-ghost use Rattle.fo_terms.specs.Places.{ArePlaces};
-ghost use Rattle.fo_terms.specs.Universe.{IsUniverse};
-ghost use Rattle.fo_ground.specs.Numbers.{row_start, symbol_start, atoms_of, rows};
+ghost use Rattle.fo_terms.specs.Universe.{IsU32, IsUniverse};
+ghost use Rattle.fo_ground.specs.Numbers.{row_start, symbol_start, term_start, atoms_of, rows};
 
-use crate::layout::{copies_of, tuples};
-use fo_core::{Seq, Sig};
+use crate::layout::tuples;
+use fo_core::Sig;
 use fo_norm::SkolemForm;
-use fo_terms::{Places, Universe};
+use fo_terms::{Universe, copies_of};
 use std::alloc::{AllocError, Global};
 
 /// Where pieces of a list begin, and how long it is.
@@ -21,9 +21,9 @@ pub struct Starts {
     pub end: u32,
 }
 
-/// The signature with the Skolem functions behind its symbols.
-pub fn whole(alloc: Global, sig: &Sig, form: &SkolemForm) -> Result<Sig, AllocError>
-    ensures { IfOk result (λ s. s ≡ extended sig.now form.now.skolems) }
+/// The signature with the Skolem functions after its own symbols.
+pub fn with_skolems(alloc: Global, sig: &Sig, form: &SkolemForm) -> Result<Sig, AllocError>
+    ensures { IfOk result (λ s. s ≡ whole sig.now form.now) }
 {
     let mut whole = sig.copy(alloc)?;
     'each: for symbol in form.skolems.as_slice() {
@@ -32,20 +32,8 @@ pub fn whole(alloc: Global, sig: &Sig, form: &SkolemForm) -> Result<Sig, AllocEr
     Ok(whole)
 }
 
-/// The numbers of terms, which have 32 bits.
-pub fn narrow(alloc: Global, sizes: &[u64]) -> Result<Seq<u32>, AllocError>
-    requires { All (λ n. n < 2 ^ 32) sizes.now }
-    ensures { IfOk result (λ s. s ≡ sizes.now) }
-{
-    let mut narrow = Vec::with_capacity(alloc, sizes.len())?;
-    'each: for size in sizes {
-        narrow.push(*size as u32)?;
-    }
-    Ok(Seq::from_vec(narrow))
-}
-
-/// Where the equations of each term with itself and the later ones of its sort begin. More than
-/// 32 bits can tell are answered as want of memory.
+/// Where the equations of each term with itself and the later ones of its sort begin. More of them
+/// than have numbers of 32 bits are reported as out of memory.
 pub fn row_starts(
     alloc: Global,
     sig: &Sig,
@@ -56,7 +44,7 @@ pub fn row_starts(
     requires universe { IsUniverse sig.now copies u.now.terms }
     requires arranged { IsArranged sig.now copies u.now }
     requires sizes { sizes.now ≡ term_counts sig.now copies }
-    requires few { length u.now.terms < 2 ^ 32 }
+    requires few { IsU32 (length u.now.terms) }
     ensures starts { IfOk result (λ s. s.starts.items ≡ map (row_start sig.now copies u.now) (range_with_len 0 (length u.now.terms))) }
     ensures end { IfOk result (λ s. s.end ≡ length (rows sig.now copies u.now)) }
 {
@@ -74,19 +62,21 @@ pub fn row_starts(
     Ok(Starts { starts, end })
 }
 
-/// Where the tuples of each symbol begin, a relation's behind the equations, which end at `end`.
-/// More than 32 bits can tell are answered as want of memory.
+/// Where the tuples of each symbol begin: a relation's after the equations, which end at `end`, and a
+/// function's as `term_starts` says. More variables than have numbers of 32 bits are reported as out
+/// of memory.
 pub fn symbol_starts(
     alloc: Global,
     sig: &Sig,
     copies: u32,
-    places: &Places,
+    term_starts: &[u32],
     sizes: &[u32],
     u: &Universe,
     end: u32,
 ) -> Result<Starts, AllocError>
     requires signature { IsSig sig.now }
-    requires places { ArePlaces sig.now copies u.now places.now }
+    requires one_each { length term_starts.now ≡ length sig.now.symbols }
+    requires term_starts { (f : ℕ) → f < length sig.now.symbols → (symbol_at sig.now f).relation ≡ false → slice_index term_starts.now f ≡ term_start sig.now copies u.now f }
     requires sizes { sizes.now ≡ term_counts sig.now copies }
     requires long { length sizes.now ≡ sig.now.sorts }
     requires end { end ≡ length (rows sig.now copies u.now) }
@@ -106,7 +96,7 @@ pub fn symbol_starts(
                 None => return Err(AllocError),
             };
         } else {
-            starts.push(*places.starts.at(k))?;
+            starts.push(term_starts[k])?;
         }
     }
     Ok(Starts { starts, end })

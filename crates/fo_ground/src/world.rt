@@ -1,15 +1,7 @@
-ghost use Rattle.std.specs.Prelude.{◌≡◌, ◌<◌, ◌≤◌, ℕ, Bool, length, map, slice_index, IfOk};
-ghost use Rattle.std.specs.List.{All};
-ghost use Rattle.fo_core.specs.Sorted.{IsSig};
-ghost use Rattle.fo_core.specs.Tables.{symbol_at, tuples as tuples_of};
-ghost use Rattle.fo_core.specs.Skolems.{extended};
-ghost use Rattle.fo_norm.specs.Forms.{IsForm, MeetsForm};
-ghost use Rattle.fo_terms.specs.Arranged.{IsArranged};
-ghost use Rattle.fo_core.specs.TermCounts.{term_counts};
-ghost use Rattle.fo_terms.specs.FormWeight.{AreFew, form_weight};
-ghost use Rattle.fo_terms.specs.Universe.{IsUniverse};
-ghost use Rattle.prop_core.specs.Formula.{MeetsAll, value_of};
-ghost use Rattle.fo_ground.specs.Grounds.{IsGrounded};
+ghost use Rattle.std.specs.Prelude.{◌≡◌, ◌≤◌, length, IfOk};
+ghost use Rattle.fo_norm.specs.Forms.{MeetsForm};
+ghost use Rattle.prop_core.specs.Formula.{value_of};
+ghost use Rattle.fo_ground.specs.Grounds.{AreMetBy, CanGround, form_layout};
 
 use crate::classes::{Classes, read_classes};
 use crate::grounded::Grounded;
@@ -23,8 +15,9 @@ use std::alloc::{AllocError, Global};
 /// The world whose elements are the classes of ground terms that the values say are the same: one of
 /// as many copies as the form has, which meets the form.
 ///
-/// It asks for what `ground` asks, for its answer, and for one value for each variable that together
-/// meet its clauses. The one error is want of memory.
+/// It asks for what [`crate::ground`] asks, and for one value for each variable of clauses over the
+/// form's atoms, which together meet the axioms of equality and all ground instances of the claims.
+/// Values that meet the clauses of [`crate::ground`] do. The one error is out of memory.
 pub fn world_of(
     alloc: Global,
     sig: &Sig,
@@ -33,14 +26,10 @@ pub fn world_of(
     u: &Universe,
     values: &[bool],
 ) -> Result<World, AllocError>
-    requires sig { IsSig sig.now }
-    requires form { IsForm sig.now form.now }
-    requires universe { IsUniverse (extended sig.now form.now.skolems) form.now.copies u.now.terms }
-    requires arranged { IsArranged (extended sig.now form.now.skolems) form.now.copies u.now }
-    requires light { form_weight sig.now form.now (term_counts (extended sig.now form.now.skolems) form.now.copies) ≤ 4000000 }
-    requires grounded { IsGrounded sig.now form.now u.now g.now }
+    requires ready { CanGround sig.now form.now u.now }
+    requires atoms { (form_layout sig.now form.now u.now).base ≤ g.now.cnf.vars }
     requires values { length values.now ≡ g.now.cnf.vars }
-    requires met { MeetsAll (value_of values.now) g.now.cnf.clauses }
+    requires met { AreMetBy sig.now form.now u.now (value_of values.now) }
     ensures meets { IfOk result (λ w. MeetsForm sig.now form.now w) }
     ensures copies { IfOk result (λ w. length w.copies ≡ form.now.copies) }
 {

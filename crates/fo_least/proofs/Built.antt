@@ -1,10 +1,9 @@
 -- A world with given sizes and given values of its tables.
-use Rattle.std.proofs.Common.{◌≡◌, ℕ, zero, suc, ◌+◌, ◌*◌, ◌<◌, ◌≤◌, Bool, true, false, cond, List, [], ◌∷◌, ◌++◌, length, map, take, drop, replicate, refl, sym, subst, ap, ◌∙◌, arith, append_assoc, length-append}
+use Rattle.std.proofs.Common.{◌≡◌, ℕ, zero, suc, ◌+◌, ◌<◌, ◌≤◌, Bool, true, false, cond, List, [], ◌∷◌, ◌++◌, length, map, take, drop, replicate, refl, sym, subst, ap, ◌∙◌, append_assoc, length-append}
 use Rattle.std.specs.Prelude.{slice_index, slice_index_or}
 use Rattle.std.specs.List.{All, AllZip, filter, flat_map, range_with_len}
 use Rattle.std.proofs.lemmas.List.Concat.{flat_map-cons}
-use Rattle.std.proofs.lemmas.List.{length-replicate, take-append-drop, length-map, map-append}
-use Rattle.std.proofs.lemmas.List.FromFn.{length-range_with_len}
+use Rattle.std.proofs.lemmas.List.{length-replicate, take-append-drop, map-append}
 use Rattle.std.proofs.Math.Seq.{get_or-append_seam}
 use Rattle.std.proofs.lemmas.List.Elements.{All-nil, All-cons}
 use Rattle.fo_core.specs.declared.signature.Sig.{Sig}
@@ -45,7 +44,7 @@ zip_all [] n r h = All-nil (λ v. v < r)
 zip_all (v ∷ vs) zero r h = absurd h
 zip_all (v ∷ vs) (suc n) r h = All-cons (λ v. v < r) v vs h.0 (zip_all vs n r h.1)
 
--- ---- the tables of symbols, one behind the other
+-- ---- the tables of symbols, one after the other
 
 -- the bounds of the values of a symbol's table
 abbrev pub ranges_in : List ℕ → Symbol → List ℕ
@@ -202,7 +201,7 @@ pub record IsWorldOf (sig : Sig) (copies : ℕ) (sizes values : List ℕ) (w : W
   pub values_are : world_values w ≡ values
   pub copies_are : length w.copies ≡ copies
 
--- the tables cut out of the list of values, one behind the other
+-- the tables cut out of the list of values, one after the other
 abbrev pub world_for : Sig → ℕ → List ℕ → List ℕ → World
 world_for sig copies sizes values =
     let n = length (flat_map (ranges_in sizes) (filter (is_like false) sig.symbols)) in

@@ -1,8 +1,8 @@
 -- The values of a world's tables are its entries, place by place.
-use Rattle.std.proofs.Common.{◌≡◌, ℕ, Bool, true, false, cond, ◌+◌, ◌*◌, ◌<◌, List, [], ◌∷◌, ◌++◌, length, get_or, map, take, refl, sym, ap, subst, ◌∙◌, arith}
+use Rattle.std.proofs.Common.{◌≡◌, ℕ, Bool, true, false, cond, ◌<◌, List, [], ◌∷◌, ◌++◌, length, get_or, map, take, refl, sym, ap, subst, ◌∙◌, arith}
 use Rattle.std.specs.Bool.{beq}
 use Rattle.std.specs.Prelude.{slice_index, slice_index_or}
-use Rattle.std.specs.List.{All, AllZip, Contains, filter, flat_map, range_with_len}
+use Rattle.std.specs.List.{All, Contains, filter, flat_map, range_with_len}
 use Rattle.std.proofs.lemmas.List.{map-append, length-map, get_or-map}
 use Rattle.std.proofs.lemmas.List.Elements.{Contains-append_left, Contains-append_right}
 use Rattle.fo_core.specs.declared.signature.Sig.{Sig}
@@ -17,7 +17,7 @@ use Rattle.fo_core.specs.Cells.{cells_in, numbers_like, cells}
 use Rattle.fo_core.specs.Least.{table_values, world_values}
 use Rattle.fo_least.proofs.CellLemmas.{IsCell, like-numbers}
 use Rattle.fo_core.proofs.ListFacts.{all_range}
-use Rattle.fo_core.proofs.Pieces.{map-map, map-flat_map, flat_map-map, flat_map-agree, Contains-flat_map, Contains-map, Contains-filter, range-Contains, range-shift, range-blocks, places-all, rank_in, ranks-all}
+use Rattle.fo_core.proofs.Pieces.{map-map, map-flat_map, flat_map-map, flat_map-agree, Contains-flat_map, Contains-map, Contains-filter, range-Contains, places-all, rank_in, ranks-all}
 use Rattle.fo_core.specs.Tuples.{all_tuples}
 use Rattle.fo_core.proofs.TupleLemmas.{tuple-places, tuple-found}
 

@@ -31,7 +31,7 @@ sort_known sizes s x lt = by_case (cases_lt s (length sizes))
     by_case (inl h) = h
     by_case (inr h) = absurd (omega (arith, get_or_past sizes s 0 h))
 
--- one more element behind some
+-- one more element after some
 pub elements-push : (sizes xs ss : List ℕ) (x s : ℕ) → AreElements sizes xs ss → x < slice_index sizes s → AreElements sizes (xs ++ x ∷ []) (ss ++ s ∷ [])
 elements-push sizes [] [] x s h lt = (lt, tt)
 elements-push sizes [] (r ∷ ss) x s h lt = absurd h

@@ -37,7 +37,7 @@ module _ (sig : Sig) (q : Query) (is : IsSig sig) (sorted : IsQuery sig q) (v : 
       (subst (λ vs. MeetsQuery sig (trial sig q v.sizes vs) v) (take_more (world_values v) k 0 lt ∙ ap (λ vs. vs ++ slice_index (world_values v) k ∷ []) (sym e))
       ((trial_means sig q v.sizes (take (k + 1) (world_values v)) is sorted (can_try_own_values sig q v meets (k + 1)) v).1 (itself-values sig q v meets (k + 1))))
 
-  -- so none of them is less than the settled one behind the same settled ones
+  -- so none of them is less than the settled one after the same settled ones
   pub size-above : (sizes : List ℕ) (k : ℕ) → AreNextSizes sig q sizes → k < length sizes → k < length v.sizes → take k sizes ≡ take k v.sizes → slice_index sizes k ≤ slice_index v.sizes k
   size-above sizes k next lt lt_v e = by_case (cases_lt (slice_index v.sizes k) (slice_index sizes k))
     where
@@ -52,7 +52,7 @@ module _ (sig : Sig) (q : Query) (is : IsSig sig) (sorted : IsQuery sig q) (v : 
       by_case (inr le) = le
       by_case (inl less) = absurd (lesser-none sig q (is_relation_at sig q sizes k) sizes (take k values) (slice_index values k) (slice_index (world_values v) k) (next k lt) less v (own-value sizes (take k values) k lt_v same e))
 
--- as many values in each world with these sizes
+-- worlds with the same sizes have the same number of values
 pub same-length : (sig : Sig) (m v : World) → Fits sig m → Fits sig v → m.sizes ≡ v.sizes → length m.copies ≡ length v.copies → length (world_values m) ≡ length (world_values v)
 same-length sig m v fits_m fits_v sizes copies =
     values-length sig m fits_m ∙ ap (λ ns. length (cells sig ns (length m.copies))) sizes ∙ ap (λ n. length (cells sig v.sizes n)) copies ∙ sym (values-length sig v fits_v)

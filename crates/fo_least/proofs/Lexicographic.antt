@@ -38,7 +38,7 @@ first-at (x ∷ xs) (y ∷ ys) zero (inr (same, h)) lt under = omega arith
 first-at (x ∷ xs) (y ∷ ys) (suc k) (inl less) lt under = let first = under 0 (omega arith) in absurd (omega arith)
 first-at (x ∷ xs) (y ∷ ys) (suc k) (inr (same, h)) lt under = first-at xs ys k h (omega arith) (λ i below. under (suc i) (omega arith))
 
--- behind the same numbers
+-- after the same numbers
 pub first-behind : (xs ms ns : List ℕ) → ComesFirst (xs ++ ms) (xs ++ ns) → ComesFirst ms ns
 first-behind [] ms ns h = h
 first-behind (x ∷ xs) ms ns (inl less) = absurd (omega arith)

@@ -1,3 +1,4 @@
+pub mod AskedInTurn
 pub mod Built
 pub mod Beginnings
 pub mod CellLemmas
@@ -16,6 +17,7 @@ pub mod OneLeast
 pub mod Pigeons
 pub mod Renamed
 pub mod Settled
+pub mod SomeLeast
 pub mod TrialEdges
 pub mod TrialMeaning
 pub mod TrialSorted

@@ -12,7 +12,7 @@ use Rattle.fo_core.specs.Tables.{is_like, AreTables, Fits}
 use Rattle.fo_core.specs.Least.{table_values, world_values, numbers_of, IsLeast}
 use Rattle.fo_least.proofs.Lexicographic.{first-both}
 
--- lists that are equal with what stands behind them are equal where they are of one length
+-- lists of one length are equal where they are with what stands after them
 halves : (ks ls xs ys : List ℕ) → length ks ≡ length ls → ks ++ xs ≡ ls ++ ys → (ks ≡ ls) × (xs ≡ ys)
 halves [] [] xs ys e same = (refl, same)
 halves [] (l ∷ ls) xs ys e same = absurd (omega arith)
@@ -45,7 +45,7 @@ copies-same sizes ss (c ∷ cs) (d ∷ ds) e h g same =
     let later = copies-same sizes ss cs ds (omega arith) (All-tail (AreTables sizes ss) c cs h) (All-tail (AreTables sizes ss) d ds g) first.1 in
     ap (λ (t : List Table). t ∷ cs) first.0 ∙ ap (λ (rest : List (List Table)). d ∷ rest) later
 
--- worlds of one signature and of as many copies are the same where their numbers are
+-- worlds of one signature and with one number of copies are the same where their numbers are
 pub numbers-all : (sig : Sig) (v w : World) → Fits sig v → Fits sig w → length v.copies ≡ length w.copies → numbers_of v ≡ numbers_of w → v ≡ w
 numbers-all sig v w fits_v fits_w many same =
     ap (λ (ns : List ℕ). record { sizes = ns; fixed = v.fixed; copies = v.copies }) both.0

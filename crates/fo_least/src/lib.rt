@@ -3,4 +3,7 @@
 
 mod laws;
 
-pub use laws::{asked_queries_are_those_of_the_least_world, least_where_settled, one_least_world};
+pub use laws::{
+    asked_queries_are_determined, asked_queries_are_those_of_the_least_world, least_where_settled,
+    one_least_world, some_world_is_least,
+};

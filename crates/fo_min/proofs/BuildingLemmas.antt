@@ -42,7 +42,7 @@ pub have_values_step : (sizes : List ℕ) (sig : Sig) (cs : List Cell) (vs : Lis
     have_values sizes sig (drop i cs) (drop i vs) ≡ has_value sizes sig (get_or cs i d) (get_or vs i 0) ∷ have_values sizes sig (drop (i + 1) cs) (drop (i + 1) vs)
 have_values_step sizes sig cs vs i d in_ within = rw (add-one, drop-cons cs i d, drop-cons vs i 0) refl
 
--- the query with a claim behind its own is the trial
+-- the query with a claim after its own is the trial
 pub is-trial : (sig : Sig) (q p : Query) (sizes values : List ℕ) (parts : List Formula) → parts ≡ covers sizes ++ have_values sizes sig (cells sig sizes q.copies) values →
     p.copies ≡ q.copies → p.claims ≡ q.claims ++ some_over (element_sorts sizes) (F.And parts) ∷ [] → p ≡ trial sig q sizes values
 is-trial sig q p sizes values parts e c d =

@@ -1,4 +1,5 @@
 pub mod ListLemmas
 pub mod BuildingLemmas
 pub mod WorldLemmas
+pub mod OneAnswer
 pub mod SearchLemmas

@@ -1,10 +1,9 @@
 -- Lists over ranges of numbers that grow by one.
-use Rattle.std.proofs.Common.{◌≡◌, ℕ, Bool, true, false, cond, ◌+◌, ◌-◌, ◌*◌, ◌<◌, ◌≤◌, List, [], ◌∷◌, ◌++◌, length, map, drop, get_or, refl, sym, ap, ◌∙◌, add-one, append-nil, append_assoc, arith}
+use Rattle.std.proofs.Common.{◌≡◌, ℕ, Bool, true, false, cond, ◌+◌, List, [], ◌∷◌, ◌++◌, refl, sym, ap, ◌∙◌, append-nil, append_assoc}
 use Rattle.std.specs.List.{filter, flat_map, range_with_len}
-use Rattle.std.proofs.Math.Seq.{drop-cons}
 use Rattle.std.proofs.lemmas.Grind.{flat_map-append}
-use Rattle.fo_core.specs.Tables.{tuples}
-use Rattle.fo_core.proofs.Pieces.{range-more, map_more, flat_map_more}
+pub use Rattle.fo_core.proofs.Pieces.{map_more, flat_map_more}
+use Rattle.fo_core.proofs.Pieces.{range-more}
 
 filter-append : (p : ℕ → Bool) (xs : List ℕ) (y : ℕ) → filter p (xs ++ y ∷ []) ≡ filter p xs ++ cond (p y) (y ∷ []) []
 filter-append p [] y = by_case (p y)
@@ -28,18 +27,6 @@ filter_more f p n =
     ap (λ l. flat_map f (filter p l)) (range-more n) ∙ ap (flat_map f) (filter-append p (range_with_len 0 n) n)
     ∙ flat_map-append f (filter p (range_with_len 0 n)) (cond (p n) (n ∷ []) [])
     ∙ ap (λ l. flat_map f (filter p (range_with_len 0 n)) ++ l) (filtered f (p n) n)
-
-pub tuples_step : (sizes sorts : List ℕ) (i : ℕ) → i < length sorts →
-    tuples (map (λ s. get_or sizes s 0) (drop i sorts)) ≡ get_or sizes (get_or sorts i 0) 0 * tuples (map (λ s. get_or sizes s 0) (drop (i + 1) sorts))
-tuples_step sizes sorts i lt = rw (add-one, drop-cons sorts i 0) refl
-
--- one sort more at the front
-pub tuples-more : (sizes sorts : List ℕ) (i before now : ℕ) → 0 < i → i ≤ length sorts → before ≡ tuples (map (λ s. get_or sizes s 0) (drop i sorts)) →
-    now ≡ get_or sizes (get_or sorts (i - 1) 0) 0 * before → now ≡ tuples (map (λ s. get_or sizes s 0) (drop (i - 1) sorts))
-tuples-more sizes sorts i before now some le b n =
-    let lt : i - 1 < length sorts = omega arith in
-    let e : i - 1 + 1 ≡ i = omega arith in
-    n ∙ ap (λ m. get_or sizes (get_or sorts (i - 1) 0) 0 * m) (b ∙ sym (ap (λ j. tuples (map (λ s. get_or sizes s 0) (drop j sorts))) e)) ∙ sym (tuples_step sizes sorts (i - 1) lt)
 
 -- one number more that passes, or doesn't
 module _ {X : Type 0} (f : ℕ → List X) (p : ℕ → Bool) (n : ℕ) (start before now : List X) (b : before ≡ start ++ flat_map f (filter p (range_with_len 0 n))) where

@@ -1,5 +1,5 @@
 -- How the search for the least world goes on.
-use Rattle.std.proofs.Common.{◌≡◌, ℕ, Bool, true, false, ◌⊎◌, inl, inr, ◌+◌, ◌-◌, ◌<◌, ◌≤◌, List, [], ◌∷◌, ◌++◌, length, take, get_or, refl, sym, ap, subst, ◌∙◌, arith}
+use Rattle.std.proofs.Common.{◌≡◌, ℕ, Bool, true, false, ◌⊎◌, inl, inr, ◌+◌, ◌-◌, ◌<◌, ◌≤◌, List, [], ◌∷◌, ◌++◌, length, take, get_or, refl, sym, ap, subst, ◌∙◌, below_more, arith}
 use Rattle.std.specs.Prelude.{slice_index}
 use Rattle.std.specs.List.{All, flat_map, range_with_len}
 use Rattle.std.proofs.lemmas.List.{take-append-le, take_all}
@@ -8,11 +8,12 @@ use Rattle.fo_core.specs.declared.query.Query.{Query}
 use Rattle.fo_core.specs.declared.signature.Sig.{Sig}
 use Rattle.fo_core.specs.declared.signature.Symbol.{Symbol}
 use Rattle.fo_core.specs.declared.world.World.{World}
-use Rattle.fo_core.specs.Finds.{HasNoWorld, HasWorld, IsLight}
+use Rattle.fo_core.specs.Finds.{CanSearch, HasNoWorld, HasWorld, IsLight}
 use Rattle.fo_core.specs.Queries.{IsQuery, MeetsQuery}
 use Rattle.fo_core.specs.QueryWeight.{query_weight}
 use Rattle.fo_core.specs.Sorted.{IsSig, HasSorts}
 use Rattle.fo_core.specs.Tables.{symbol_at, Fits}
+use Rattle.fo_core.specs.declared.cell.Cell.{Cell}
 use Rattle.fo_core.specs.Asked.{is_relation_at, IsNextSize, AreNextSizes, IsNextValue, AreNextValues, tried, size_trials, value_trials, queries_for, IsAsked, at_first, for_size, for_value}
 use Rattle.fo_core.specs.Cells.{cells}
 use Rattle.fo_core.specs.Least.{world_values}
@@ -22,19 +23,22 @@ use Rattle.fo_core.proofs.ListFacts.{all_flat, all_range}
 use Rattle.fo_least.proofs.Naming.{CanTry, MeetsTrial}
 use Rattle.fo_least.proofs.NextLemmas.{push-cases, next_size, can_try_size, next_value, can_try_value, symbol-sorts}
 use Rattle.fo_least.proofs.Settled.{settled-world}
-use Rattle.fo_least.proofs.TrialMeaning.{trial_means, trial_is_query}
+use Rattle.fo_least.proofs.TrialMeaning.{trial_means, trial_is_query, trial_rises}
 use Rattle.fo_min.specs.declared.found.Excess.{Excess}
 use Rattle.fo_min.specs.declared.found.Least.TheVariants.{Model}
 use Rattle.fo_min.specs.declared.search.Answer.{Answer}
 use Rattle.fo_min.specs.declared.search.Answer.TheVariants as Answers
 use Rattle.fo_min.specs.declared.search.Numbers.{Numbers}
 use Rattle.fo_min.specs.declared.search.Numbers.TheVariants as All_of
+use Rattle.fo_min.specs.declared.search.Entries.{Entries}
+use Rattle.fo_min.specs.declared.search.NextSize.TheVariants as Sizes
+use Rattle.fo_min.specs.declared.search.Search.{Search}
 use Rattle.fo_min.specs.Cut.{AreInRange}
 use Rattle.fo_min.specs.Found.{IsExcess, IsFoundLeast}
-use Rattle.fo_min.specs.Search.{IsSettled, IsQueryAnswer, AreSizesFound, AreValuesFound, range_at}
-use Rattle.fo_min.proofs.ListLemmas.{map_more}
+use Rattle.fo_min.specs.Search.{sig_of, query_of, IsSearch, sorts_of, HasSizes, IsQueryAnswer, IsSettled, AreSettled, IsSizeAnswer, IsAbove, IsSizeFound, AreSizesFound, AreValuesFound, AreEntries, is_relation_next, range_at, range_next, AreValuesSettled, IsValueAnswer}
+use Rattle.fo_core.proofs.Pieces.{map_more}
 
--- what holds of each element of a list, behind those before it, and of one more
+-- what holds of each element of a list, after those before it, and of one more
 each-more : (P : ℕ → List ℕ → ℕ → Type 0) (xs : List ℕ) (y : ℕ) → ((k : ℕ) → k < length xs → P k (take k xs) (get_or xs k 0)) → P (length xs) xs y →
     (k : ℕ) → k < length (xs ++ y ∷ []) → P k (take k (xs ++ y ∷ [])) (get_or (xs ++ y ∷ []) k 0)
 each-more P xs y each last k lt = by_case (push-cases xs y k lt)
@@ -228,7 +232,7 @@ module _ (sig : Sig) (q : Query) (limit : ℕ) (is : IsSig sig) (sorted : IsQuer
           subst (λ ns. AreLight (queries_for sig q ns (world_values w))) (sym sizes_are) (subst (λ vs. AreLight (queries_for sig q sizes vs)) (sym values_are) (light-queries sizes values s)),
         )
 
--- ---- what was asked
+-- ---- answers
 
 module _ (sig : Sig) (before limit : ℕ) (same : before ≡ limit) (p : Query) (a : Answer) (h : IsQueryAnswer sig before p a) where
   at : (b : Answer) → a ≡ b → IsQueryAnswer sig limit p b
@@ -243,6 +247,129 @@ module _ (sig : Sig) (before limit : ℕ) (same : before ≡ limit) (p : Query) 
   pub answer-over : (x : Excess) → a ≡ Answers.Over x → (x.query ≡ p) × (x.weight ≡ query_weight sig p) × (limit < x.weight)
   answer-over x e = at (Answers.Over x) e
 
+-- ---- the next size, in a search
+
+-- a trial of a size can be asked where the query can be
+pub can-ask-size : (s : Search) → IsSearch s → (sizes : List ℕ) → length sizes < sorts_of s → (n : ℕ) →
+    CanSearch s.sys.now s.order.now (trial (sig_of s) (query_of s) (sizes ++ n ∷ []) [])
+can-ask-size s can sizes more n = record {
+  sig = can.sig;
+  query = size-is-query (sig_of s) (query_of s) 0 can.sig can.query sizes more n;
+  rises = trial_rises (sig_of s) (query_of s) (sizes ++ n ∷ []) [] s.order.now.numbers can.rises;
+}
+
+-- no world has this size after these
+abbrev pub HasNoSize : Search → List ℕ → ℕ → Type 0
+HasNoSize s sizes n = HasNoWorld (sig_of s) (trial (sig_of s) (query_of s) (sizes ++ n ∷ []) [])
+
+-- the first m trials are light
+abbrev pub AreLightSizes : Search → ℕ → List ℕ → ℕ → Type 0
+AreLightSizes s limit sizes m = All (IsLight (sig_of s) limit) (size_trials (sig_of s) (query_of s) sizes m)
+
+-- a world that has the sizes has one of those that are tried
+pub some-size : (s : Search) (limit : ℕ) → IsSearch s → (sizes : List ℕ) → length sizes < sorts_of s → (w : World) → HasSizes s sizes w →
+    ¬ ((j : ℕ) → j < slice_index w.sizes (length sizes) → HasNoSize s sizes (j + 1))
+some-size s limit can sizes more w has = size-bound (sig_of s) (query_of s) limit can.sig can.query sizes more w has
+
+-- an answer to a trial whose like before were answered that there is no world
+module _ (s : Search) (limit : ℕ) (can : IsSearch s) (sizes : List ℕ) (more : length sizes < sorts_of s) (settled : AreSettled s limit sizes [])
+    (m : ℕ) (none : (j : ℕ) → j < m → HasNoSize s sizes (j + 1)) (light : AreLightSizes s limit sizes m)
+    (before : ℕ) (same : before ≡ limit) (a : Answer) (h : IsSizeAnswer s before sizes (m + 1) a) where
+  abbrev tried_size : Query
+  tried_size = trial (sig_of s) (query_of s) (sizes ++ (m + 1) ∷ []) []
+
+  pub met-size : (w : World) → a ≡ Answers.Met w → IsSizeFound s limit sizes (Sizes.Found (m + 1) w)
+  met-size w e =
+      let met = answer-met (sig_of s) before limit same tried_size a h w e in
+      (size-found (sig_of s) (query_of s) limit can.sig can.query sizes more settled m none light w met.0 met.1, met.0)
+
+  pub no-size : a ≡ Answers.Nothing → ((j : ℕ) → j < m + 1 → HasNoSize s sizes (j + 1)) × AreLightSizes s limit sizes (m + 1)
+  no-size e =
+      let missing = answer-none (sig_of s) before limit same tried_size a h e in
+      (below_more (λ j. HasNoSize s sizes (j + 1)) m none missing.0, size-lights (sig_of s) (query_of s) limit can.sig can.query sizes more m light missing.1)
+
+  pub over-size : (x : Excess) → a ≡ Answers.Over x → IsAbove s limit x
+  over-size x e =
+      size-excess (sig_of s) (query_of s) limit can.sig can.query sizes more settled m none light x
+      (answer-over (sig_of s) before limit same tried_size a h x e)
+
+-- ---- the next value, in a search whose sizes are settled
+
+-- there is a next entry
+some-entry : (e : Entries) → AreEntries e → (values : List ℕ) → length values < length e.cells.now →
+    length values < length (cells (sig_of e.search) e.sizes.now (query_of e.search).copies)
+some-entry e are values more = subst (λ (cs : List Cell). length values < length cs) are.all more
+
+-- no world has this value after these
+abbrev pub HasNoValue : Entries → List ℕ → ℕ → Type 0
+HasNoValue e values v = HasNoWorld (sig_of e.search) (trial (sig_of e.search) (query_of e.search) e.sizes.now (values ++ v ∷ []))
+
+-- the first v trials are light
+abbrev pub AreLightValues : Entries → ℕ → List ℕ → ℕ → Type 0
+AreLightValues e limit values v = All (IsLight (sig_of e.search) limit) (value_trials (sig_of e.search) (query_of e.search) e.sizes.now values v)
+
+module _ (e : Entries) (limit : ℕ) (are : AreEntries e) (values : List ℕ) (more : length values < length e.cells.now) (settled : AreValuesSettled e limit values) where
+  abbrev own_sig : Sig
+  own_sig = sig_of e.search
+
+  abbrev own_query : Query
+  own_query = query_of e.search
+
+  abbrev own_sizes : List ℕ
+  own_sizes = e.sizes.now
+
+  abbrev tried_value : ℕ → Query
+  tried_value v = trial own_sig own_query own_sizes (values ++ v ∷ [])
+
+  next : length values < length (cells own_sig own_sizes own_query.copies)
+  next = some-entry e are values more
+
+  -- a trial of a value can be asked where the query can be
+  pub can-ask-value : (v : ℕ) → v < range_next e values → CanSearch e.search.sys.now e.search.order.now (tried_value v)
+  can-ask-value v in_range = record {
+    sig = are.can.sig;
+    query = value-is-query own_sig own_query limit are.can.sig are.can.query own_sizes values are.sorts next settled v in_range;
+    rises = trial_rises own_sig own_query own_sizes (values ++ v ∷ []) e.search.order.now.numbers are.can.rises;
+  }
+
+  -- some world has one of the values that are tried
+  pub some-value : ¬ ((u : ℕ) → u < range_next e values → HasNoValue e values u)
+  some-value = value-bound own_sig own_query limit are.can.sig are.can.query own_sizes values are.sorts next settled
+
+  -- an answer to a trial whose like before were answered that there is no world
+  module _ (v : ℕ) (none : (u : ℕ) → u < v → HasNoValue e values u) (light : AreLightValues e limit values v) (before : ℕ) (same : before ≡ limit) (a : Answer) (h : IsValueAnswer e before values v a) where
+    pub met-element : is_relation_next e values ≡ false → (w : World) → a ≡ Answers.Met w → AreValuesSettled e limit (values ++ v ∷ [])
+    met-element function w is =
+        let met = answer-met own_sig before limit same (tried_value v) a h w is in
+        element-met own_sig own_query limit are.can.sig are.can.query own_sizes values are.sorts next settled function v w none light met.0 met.1
+
+    pub no-element : a ≡ Answers.Nothing → ((u : ℕ) → u < v + 1 → HasNoValue e values u) × AreLightValues e limit values (v + 1)
+    no-element is =
+        let missing = answer-none own_sig before limit same (tried_value v) a h is in (
+          below_more (HasNoValue e values) v none missing.0,
+          value-lights own_sig own_query limit are.can.sig are.can.query own_sizes values are.sorts next settled v light missing.1,
+        )
+
+    pub over-value : (is_relation_next e values ≡ true → v ≡ 0) → (x : Excess) → a ≡ Answers.Over x → IsAbove e.search limit x
+    over-value one x is =
+        value-excess own_sig own_query limit are.can.sig are.can.query own_sizes values are.sorts next settled v one none light x
+        (answer-over own_sig before limit same (tried_value v) a h x is)
+
+  -- an answer to the one trial of a relation's value
+  module _ (relation : is_relation_next e values ≡ true) (a : Answer) (h : IsValueAnswer e limit values 0 a) where
+    pub met-truth : (w : World) → a ≡ Answers.Met w → AreValuesSettled e limit (values ++ 0 ∷ [])
+    met-truth w is =
+        let met = answer-met own_sig limit limit refl (tried_value 0) a h w is in
+        truth-met own_sig own_query limit are.can.sig are.can.query own_sizes values are.sorts next settled relation w met.0 met.1
+
+    pub no-truth : a ≡ Answers.Nothing → AreValuesSettled e limit (values ++ 1 ∷ [])
+    no-truth is =
+        let missing = answer-none own_sig limit limit refl (tried_value 0) a h is in
+        truth-none own_sig own_query limit are.can.sig are.can.query own_sizes values are.sorts next settled relation missing.0 missing.1
+
+    pub over-truth : (x : Excess) → a ≡ Answers.Over x → IsAbove e.search limit x
+    over-truth x is = over-value 0 (λ u lt. absurd (omega arith)) (All-nil (IsLight own_sig limit)) limit refl a h (λ _. refl) x is
+
 -- the first query is above the limit
 pub first-excess : (sig : Sig) (q p : Query) (limit : ℕ) (x : Excess) → p ≡ q → (x.query ≡ p) × (x.weight ≡ query_weight sig p) × (limit < x.weight) → IsExcess sig q limit x
 first-excess sig q p limit x same (e, weight, above) = record {
@@ -254,13 +381,13 @@ first-excess sig q p limit x same (e, weight, above) = record {
 }
 
 -- the sizes, and the values, that were found are settled
-pub sizes-found : (sig : Sig) (q : Query) (limit : ℕ) (a : Numbers) (sizes : List ℕ) → a ≡ All_of.Found sizes → AreSizesFound sig q limit a → IsSettled sig q limit sizes [] × (length sizes ≡ sig.sorts)
-sizes-found sig q limit a sizes e h = subst (AreSizesFound sig q limit) e h
+pub sizes-found : (s : Search) (limit : ℕ) (a : Numbers) (sizes : List ℕ) → a ≡ All_of.Found sizes → AreSizesFound s limit a → AreSettled s limit sizes [] × (length sizes ≡ sorts_of s)
+sizes-found s limit a sizes e h = subst (AreSizesFound s limit) e h
 
-pub values-found : (sig : Sig) (q : Query) (before limit : ℕ) (a : Numbers) (lent sizes values : List ℕ) → before ≡ limit → lent ≡ sizes → a ≡ All_of.Found values → AreValuesFound sig q before lent a →
-    IsSettled sig q limit sizes values × (length values ≡ length (cells sig sizes q.copies))
-values-found sig q before limit a lent sizes values same s e h =
-    subst (AreValuesFound sig q limit sizes) e (subst (λ ns. AreValuesFound sig q limit ns a) s (subst (λ n. AreValuesFound sig q n lent a) same h))
+pub values-found : (s : Search) (before limit : ℕ) (a : Numbers) (lent sizes values : List ℕ) → before ≡ limit → lent ≡ sizes → a ≡ All_of.Found values → AreValuesFound s before lent a →
+    AreSettled s limit sizes values × (length values ≡ length (cells (sig_of s) sizes (query_of s).copies))
+values-found s before limit a lent sizes values same alike e h =
+    subst (AreValuesFound s limit sizes) e (subst (λ ns. AreValuesFound s limit ns a) alike (subst (λ n. AreValuesFound s n lent a) same h))
 
 pub lent-in-range : (sig : Sig) (copies : ℕ) (lent sizes lent_values values : List ℕ) → lent ≡ sizes → lent_values ≡ values → AreInRange sig copies sizes values → AreInRange sig copies lent lent_values
 lent-in-range sig copies lent sizes lent_values values s v h = subst (λ ns. AreInRange sig copies ns lent_values) (sym s) (subst (AreInRange sig copies sizes) (sym v) h)

@@ -1,8 +1,12 @@
-ghost use Rattle.std.specs.Prelude.{◌≡◌, ◌==◌, ◌<◌, ◌≤◌, ◌^◌, ◌++◌, ◌∷◌, [], cond, length, replicate, sum, take, IfOk, OnOk};
+ghost use Rattle.std.specs.Prelude.{◌≡◌, ◌==◌, ◌<◌, ◌≤◌, ◌^◌, ◌++◌, ◌∷◌, [], cond, length};
+ghost use Rattle.std.specs.Prelude.{replicate, sum, take, IfOk, OnOk};
 ghost use Rattle.std.specs.List.{All};
 ghost use Rattle.fo_core.specs.declared.signature.Sig.{Sig};
 ghost use Rattle.fo_core.specs.declared.formula.Formula.TheVariants as F;
-ghost use Rattle.fo_core.specs.Trials.{element_sorts as element_sorts_of, element as element_of, elements as elements_of, cover as cover_of, covers as covers_of, has_value as has_value_of, have_values as have_values_of, trial};
+ghost use Rattle.fo_core.specs.Trials.{element_sorts as element_sorts_of, element as element_of};
+ghost use Rattle.fo_core.specs.Trials.{elements as elements_of, cover as cover_of};
+ghost use Rattle.fo_core.specs.Trials.{covers as covers_of, has_value as has_value_of};
+ghost use Rattle.fo_core.specs.Trials.{have_values as have_values_of, trial};
 ghost use Rattle.fo_core.specs.Cells.{cells as cells_of};
 ghost use Rattle.fo_min.specs.Search.{HasSymbol};
 ghost use Rattle.fo_core.specs.Over.{some_over as some_over_of};
@@ -10,8 +14,8 @@ ghost use Rattle.fo_core.specs.Over.{some_over as some_over_of};
 use fo_core::{Boxed, Cell, Formula, Query, Seq, Sig, Term, some_over};
 use std::alloc::{AllocError, Global};
 
-/// How many elements the sorts before this one have. Where the number passes 32 bits, memory is
-/// wanting.
+/// How many elements the sorts before this one have. Where the number doesn't fit 32 bits, it
+/// answers out of memory.
 fn first_variable(sizes: &[u32], sort: usize) -> Result<u32, AllocError>
     ensures { IfOk result (λ n. n ≡ sum (take sort sizes.now)) }
 {
@@ -59,7 +63,7 @@ fn elements(
     Ok(terms)
 }
 
-/// Adds the sort so many times.
+/// Adds the sort `size` times.
 fn add_sort(sort: u32, size: u32, sorts: &mut Seq<u32>) -> Result<(), AllocError>
     ensures { OnOk result (sorts.new ≡ sorts.old ++ replicate size sort) }
 {
@@ -98,7 +102,7 @@ fn cover(alloc: Global, sizes: &[u32], sort: u32) -> Result<Formula, AllocError>
     Ok(Formula::All(sort, Boxed::new(alloc, Formula::Or(parts))?))
 }
 
-/// That of each of the sorts.
+/// For each of the sorts, that the named elements are all that it has.
 #[tactic(auto, using(crate::proofs::ListLemmas::map_more))]
 fn covers(alloc: Global, sizes: &[u32]) -> Result<Seq<Formula>, AllocError>
     requires { length sizes.now < 2 ^ 32 }
@@ -154,7 +158,8 @@ fn add_values(
 ) -> Result<(), AllocError>
     requires symbols { All (HasSymbol sig.now) cells.now }
     requires enough { length values.now ≤ length cells.now }
-    ensures { OnOk result (parts.new ≡ parts.old ++ have_values_of sizes.now sig.now cells.now values.now) }
+    ensures { OnOk result
+        (parts.new ≡ parts.old ++ have_values_of sizes.now sig.now cells.now values.now) }
 {
     'each: for (i, v) in values.iter().enumerate() {
         parts.push(has_value(alloc, sig, sizes, &cells[i], *v)?)?;
@@ -162,7 +167,7 @@ fn add_values(
     Ok(())
 }
 
-/// The query with these claims about named elements behind its own.
+/// The query with these claims about named elements after its own.
 fn with_claim(
     alloc: Global,
     q: &Query,
@@ -171,7 +176,8 @@ fn with_claim(
 ) -> Result<Query, AllocError>
     requires { length sizes.now < 2 ^ 32 }
     ensures copies { IfOk result (λ p. p.copies ≡ q.now.copies) }
-    ensures claims { IfOk result (λ p. p.claims ≡ q.now.claims ++ some_over_of (element_sorts_of sizes.now) (F.And parts) ∷ []) }
+    ensures claims { IfOk result (λ p.
+        p.claims ≡ q.now.claims ++ some_over_of (element_sorts_of sizes.now) (F.And parts) ∷ []) }
 {
     let sorts = element_sorts(alloc, sizes)?;
     let claim = some_over(alloc, sorts.as_slice(), Formula::And(parts))?;
@@ -180,7 +186,7 @@ fn with_claim(
     Ok(Query { copies, claims })
 }
 
-/// The query with the claim that as many elements as these sizes say cover the first sorts.
+/// The query with the claim that the first sorts have no more elements than these sizes say.
 pub fn size_trial(alloc: Global, q: &Query, sizes: &[u32]) -> Result<Query, AllocError>
     requires { length sizes.now < 2 ^ 32 }
     ensures { IfOk result (λ p. (sig : Sig) → p ≡ trial sig q.now sizes.now []) }

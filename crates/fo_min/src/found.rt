@@ -1,4 +1,7 @@
+ghost use Rattle.std.specs.Prelude.{◌≡◌, IfOk};
+
 use fo_core::{Query, World};
+use std::alloc::{AllocError, Global};
 
 /// A query that is heavier than a finder's limit.
 #[derive(Debug, Drop)]
@@ -7,6 +10,18 @@ pub struct Excess {
     pub weight: u64,
     /// The query.
     pub query: Query,
+}
+
+impl Excess {
+    /// A copy.
+    pub fn copy(&self, alloc: Global) -> Result<Excess, AllocError>
+        ensures { IfOk result (λ x. x ≡ self.now) }
+    {
+        Ok(Excess {
+            weight: self.weight,
+            query: self.query.copy(alloc)?,
+        })
+    }
 }
 
 /// What a search for the least world found.
@@ -18,4 +33,17 @@ pub enum Least {
     Nothing,
     /// A query of the search is heavier than the finder's limit.
     Over(Excess),
+}
+
+impl Least {
+    /// A copy.
+    pub fn copy(&self, alloc: Global) -> Result<Least, AllocError>
+        ensures { IfOk result (λ x. x ≡ self.now) }
+    {
+        match self {
+            Least::Model(world) => Ok(Least::Model(world.copy(alloc)?)),
+            Least::Nothing => Ok(Least::Nothing),
+            Least::Over(excess) => Ok(Least::Over(excess.copy(alloc)?)),
+        }
+    }
 }

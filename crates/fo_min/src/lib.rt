@@ -3,11 +3,13 @@
 
 mod building;
 mod found;
+mod laws;
 mod places;
 mod search;
 mod world;
 
 pub use found::{Excess, Least};
+pub use laws::{one_answer_of_least, one_excess};
 pub use search::least;
 
 #[cfg(test)]

@@ -47,7 +47,9 @@ fn add_tables(
 ) -> Result<(), AllocError>
     requires sig { IsSig sig.now }
     requires sizes { length sizes.now ≡ sig.now.sorts }
-    ensures { OnOk result (cells.new ≡ cells.old ++ flat_map (cells_in sig.now sizes.now copy) (numbers_like sig.now sizes.now mutable)) }
+    ensures { OnOk result
+        (cells.new ≡ cells.old ++
+        flat_map (cells_in sig.now sizes.now copy) (numbers_like sig.now sizes.now mutable)) }
 {
     let count = sig.symbols.len() as u32;
     'each: for k in 0..count {
@@ -58,7 +60,7 @@ fn add_tables(
     Ok(())
 }
 
-/// The places in the tables of a world of these sizes and so many copies, in their order.
+/// The places in the tables of a world with these sizes and this number of copies, in their order.
 #[tactic(auto, using(crate::proofs::ListLemmas::flat_map_more))]
 pub fn cells(alloc: Global, sig: &Sig, sizes: &[u32], copies: u32) -> Result<Seq<Cell>, AllocError>
     requires sig { IsSig sig.now }

@@ -1,40 +1,33 @@
-ghost use Rattle.std.specs.Prelude.{true, false, ◌≡◌, ◌<◌, ◌≤◌, ◌++◌, ◌∷◌, [], length, map, sum, take, drop, slice_index, IfOk, OnOk};
+ghost use Rattle.std.specs.Prelude.{true, false, ◌≡◌, ◌<◌, ◌≤◌, ◌++◌, ◌∷◌, [], length, map, sum};
+ghost use Rattle.std.specs.Prelude.{take, drop, IfOk, OnOk};
 ghost use Rattle.std.specs.List.{All, filter};
 ghost use Rattle.fo_core.specs.Sorted.{HasSorts, IsSig};
-ghost use Rattle.fo_core.specs.Tables.{tuples, is_like, Fits};
+ghost use Rattle.fo_core.specs.Tables.{is_like, Fits};
 ghost use Rattle.fo_core.specs.Cells.{cells};
 ghost use Rattle.fo_core.specs.Least.{world_values};
-ghost use Rattle.fo_min.specs.Cut.{value_count, counts_like, cut as cut_of, cut_copies as cut_copies_of, AreInRange};
+ghost use Rattle.fo_min.specs.Cut.{value_count, counts_like, cut as cut_of};
+ghost use Rattle.fo_min.specs.Cut.{cut_copies as cut_copies_of, AreInRange};
 
-use fo_core::{Seq, Sig, Symbol, Table, World};
+use fo_core::{Seq, Sig, Symbol, Table, World, tuple_count};
 use std::alloc::{AllocError, Global};
 
-/// How many tuples of elements of these sorts there are. Where the number passes 64 bits, memory is
-/// wanting.
-fn tuple_count(sizes: &[u32], sorts: &[u32]) -> Result<usize, AllocError>
-    requires { All (λ s. s < length sizes.now) sorts.now }
-    ensures { IfOk result (λ n. n ≡ tuples (map (slice_index sizes.now) sorts.now)) }
-{
-    let mut count: usize = 1;
-    'each: for i in (0..sorts.len()).rev() {
-        let size = sizes[sorts[i] as usize] as usize;
-        count = size.checked_mul(count).ok_or(AllocError)?;
-    }
-    Ok(count)
-}
-
-/// Adds how many values the table of the symbol has, where the symbol is of the kind.
+/// Adds how many values the table of the symbol has, where the symbol is of the kind. Where the
+/// number doesn't fit 64 bits, it answers out of memory.
 fn add_count(
     sizes: &[u32],
     symbol: &Symbol,
     mutable: bool,
     counts: &mut Seq<usize>,
 ) -> Result<(), AllocError>
-    requires { All (λ s. s < length sizes.now) symbol.now.args }
-    ensures { OnOk result (counts.new ≡ counts.old ++ map (value_count sizes.now) (filter (is_like mutable) (symbol.now ∷ []))) }
+    requires positive { All (λ n. 1 ≤ n) sizes.now }
+    requires known { All (λ s. s < length sizes.now) symbol.now.args }
+    ensures { OnOk result
+        (counts.new ≡ counts.old ++
+        map (value_count sizes.now) (filter (is_like mutable) (symbol.now ∷ []))) }
 {
     if symbol.mutable == mutable {
-        counts.push(tuple_count(sizes, symbol.args.as_slice())?)?;
+        let count = tuple_count(sizes, symbol.args.as_slice()).ok_or(AllocError)?;
+        counts.push(count as usize)?;
     }
     Ok(())
 }
@@ -46,7 +39,8 @@ fn counts(
     symbols: &[Symbol],
     mutable: bool,
 ) -> Result<Seq<usize>, AllocError>
-    requires { All (HasSorts (length sizes.now)) symbols.now }
+    requires positive { All (λ n. 1 ≤ n) sizes.now }
+    requires known { All (HasSorts (length sizes.now)) symbols.now }
     ensures { IfOk result (λ ns. ns ≡ counts_like sizes.now symbols.now mutable) }
 {
     let mut counts = Seq::new(alloc);
@@ -56,7 +50,7 @@ fn counts(
     Ok(counts)
 }
 
-/// The sum of the numbers. Where it passes 64 bits, memory is wanting.
+/// The sum of the numbers. Where it doesn't fit 64 bits, it answers out of memory.
 fn total(numbers: &[usize]) -> Result<usize, AllocError>
     ensures { IfOk result (λ n. n ≡ sum numbers.now) }
 {
@@ -70,7 +64,7 @@ fn total(numbers: &[usize]) -> Result<usize, AllocError>
     Ok(total)
 }
 
-/// The first values, so many of them, or all where there are fewer.
+/// The first n values, or all where there are fewer.
 fn front(values: &[u32], n: usize) -> &[u32]
     ensures { result.now ≡ take n values.now }
 {
@@ -81,14 +75,14 @@ fn front(values: &[u32], n: usize) -> &[u32]
     }
 }
 
-/// The values behind these.
+/// The values after these.
 fn back(values: &[u32], n: usize) -> &[u32]
     ensures { result.now ≡ drop n values.now }
 {
     if n < values.len() { &values[n..] } else { &[] }
 }
 
-/// Tables of so many values each, cut out of the values one behind the other.
+/// Tables with these numbers of values, cut out of the values one after the other.
 fn cut(alloc: Global, counts: &[usize], values: &[u32]) -> Result<Seq<Table>, AllocError>
     ensures { IfOk result (λ ts. ts ≡ cut_of counts.now values.now) }
 {
@@ -104,7 +98,7 @@ fn cut(alloc: Global, counts: &[usize], values: &[u32]) -> Result<Seq<Table>, Al
     Ok(tables)
 }
 
-/// So many copies of such tables.
+/// Such tables for each of the copies.
 fn cut_copies(
     alloc: Global,
     counts: &[usize],
@@ -123,7 +117,7 @@ fn cut_copies(
     Ok(all)
 }
 
-/// The world of these sizes and of so many copies whose tables are cut out of the values.
+/// The world with these sizes and this number of copies whose tables are cut out of the values.
 fn cut_world(
     alloc: Global,
     symbols: &[Symbol],
@@ -131,10 +125,15 @@ fn cut_world(
     sizes: &[u32],
     values: &[u32],
 ) -> Result<World, AllocError>
-    requires { All (HasSorts (length sizes.now)) symbols.now }
+    requires positive { All (λ n. 1 ≤ n) sizes.now }
+    requires known { All (HasSorts (length sizes.now)) symbols.now }
     ensures sizes { IfOk result (λ w. w.sizes ≡ sizes.now) }
-    ensures fixed { IfOk result (λ w. w.fixed ≡ cut_of (counts_like sizes.now symbols.now false) (take (sum (counts_like sizes.now symbols.now false)) values.now)) }
-    ensures copies { IfOk result (λ w. w.copies ≡ cut_copies_of (counts_like sizes.now symbols.now true) copies (drop (sum (counts_like sizes.now symbols.now false)) values.now)) }
+    ensures fixed { IfOk result (λ w.
+        w.fixed ≡ cut_of (counts_like sizes.now symbols.now false)
+        (take (sum (counts_like sizes.now symbols.now false)) values.now)) }
+    ensures copies { IfOk result (λ w.
+        w.copies ≡ cut_copies_of (counts_like sizes.now symbols.now true) copies
+        (drop (sum (counts_like sizes.now symbols.now false)) values.now)) }
 {
     let fixed_counts = counts(alloc, sizes, symbols, false)?;
     let fixed_total = total(fixed_counts.as_slice())?;
@@ -148,8 +147,9 @@ fn cut_world(
     })
 }
 
-/// The world of these sizes and of so many copies whose tables have these values, one table behind the
-/// other: those of the immutable symbols, and then copy by copy those of the mutable ones.
+/// The world with these sizes and this number of copies whose tables have these values, one table
+/// after the other: those of the immutable symbols, and then copy by copy those of the mutable
+/// ones. Where the number of a table's values doesn't fit 64 bits, it answers out of memory.
 pub fn world_from(
     alloc: Global,
     sig: &Sig,

@@ -13,13 +13,17 @@ use Rattle.fo_core.specs.Skolems.{extended}
 use Rattle.fo_norm.specs.Extended.{with_tables}
 use Rattle.fo_norm.specs.declared.form.SkolemForm.{SkolemForm}
 
+-- the signature with the form's Skolem functions after its own symbols
+abbrev pub whole : Sig → SkolemForm → Sig
+whole sig form = extended sig form.skolems
+
 -- the world is one for the signature and has as many copies as the form, and with these tables for
 -- the Skolem symbols all its claims are true, with copies counted from 0
 pub record MeetsWith (sig : Sig) (form : SkolemForm) (w : World) (ts : List Table) : Type 0 where
   pub fits : Fits sig w
   pub copies : length w.copies ≡ form.copies
   pub tables : AreTables w.sizes form.skolems ts
-  pub claims : All (λ f. Truth (extended sig form.skolems) (with_tables w ts) 0 f []) form.claims
+  pub claims : All (λ f. Truth (whole sig form) (with_tables w ts) 0 f []) form.claims
 
 -- tables for the Skolem symbols exist with which the world meets the claims
 abbrev pub MeetsForm : Sig → SkolemForm → World → Type 0
@@ -56,7 +60,7 @@ pub record IsSkolem (below : ℕ) (s : Symbol) : Type 0 where
 -- its copies alone, and all symbols together have numbers of 32 bits
 pub record IsForm (sig : Sig) (form : SkolemForm) : Type 0 where
   pub copies : 1 ≤ form.copies
-  pub claims : All (λ f. IsFormula (extended sig form.skolems) form.copies f []) form.claims
+  pub claims : All (λ f. IsFormula (whole sig form) form.copies f []) form.claims
   pub normal : All IsNormal form.claims
   pub skolems : All (IsSkolem sig.sorts) form.skolems
   pub few : length sig.symbols + length form.skolems < 2 ^ 32 - 1

@@ -3,11 +3,11 @@ ghost use Rattle.std.specs.List.{All};
 ghost use Rattle.fo_core.specs.declared.formula.Formula.TheVariants as F;
 ghost use Rattle.fo_core.specs.declared.world.World.{World};
 ghost use Rattle.fo_core.specs.Queries.{IsQuery, MeetsQuery};
-ghost use Rattle.fo_core.specs.Skolems.{skolem_symbols, skolem_symbols_list, extended};
+ghost use Rattle.fo_core.specs.Skolems.{skolem_symbols, skolem_symbols_list};
 ghost use Rattle.fo_core.specs.SortGraph.{FunctionEdge, ClaimsEdge};
 ghost use Rattle.fo_core.specs.Sorted.{IsSig};
 ghost use Rattle.fo_core.specs.Weights.{claim_nodes, skolem_nodes};
-ghost use Rattle.fo_norm.specs.Forms.{IsForm, MeetsForm};
+ghost use Rattle.fo_norm.specs.Forms.{whole, IsForm, MeetsForm};
 ghost use Rattle.fo_norm.specs.Skolem.{formed as formed_of, formed_list, literal as literal_of, joined as joined_of, constant as constant_of, universal as universal_of, existential as existential_of, universal_symbols, existential_symbols, CanForm, CanBind};
 
 use crate::form::SkolemForm;
@@ -187,7 +187,7 @@ pub fn normal(alloc: Global, sig: &Sig, q: &Query) -> Result<SkolemForm, AllocEr
     ensures copies { IfOk result (λ form. form.copies ≡ q.now.copies) }
     ensures form { IfOk result (λ form. IsForm sig.now form) }
     ensures skolems { IfOk result (λ form. form.skolems ≡ skolem_symbols_list true q.now.claims []) }
-    ensures edges { IfOk result (λ form. (a b : ℕ) → FunctionEdge (extended sig.now form.skolems) a b ↔ ClaimsEdge sig.now q.now.claims a b) }
+    ensures edges { IfOk result (λ form. (a b : ℕ) → FunctionEdge (whole sig.now form) a b ↔ ClaimsEdge sig.now q.now.claims a b) }
     ensures nodes { IfOk result (λ form. (U : List ℕ) → claim_nodes U q.now.claims ≡ claim_nodes U form.claims + skolem_nodes U form.skolems) }
     ensures same_worlds { IfOk result (λ form. (w : World) → MeetsQuery sig.now q.now w ↔ MeetsForm sig.now form w) }
 {

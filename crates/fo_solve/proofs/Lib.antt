@@ -1,3 +1,2 @@
-mod Alike
 mod Lemmas
 mod NextLemmas

@@ -1,4 +1,5 @@
 ghost use Rattle.std.specs.Prelude.{◌≡◌, ◌≤◌};
+ghost use Rattle.fo_core.specs.declared.query.TheConstants.{MOST_WEIGHT};
 
 use crate::search::answer;
 use fo_core::{Finder, Finders, Found, Order, Query, System};
@@ -7,20 +8,20 @@ use std::alloc::{AllocError, Global};
 /// A complete finder for queries whose sort graph has an order. It keeps nothing but its limit.
 ///
 /// The claims are brought into Skolem form and instantiated by all ground terms, of which there are
-/// finitely many since functions lead from lower sorts to higher ones (Yeting Ge and Leonardo de Moura,
-/// "Complete Instantiation for Quantified Formulas in Satisfiability Modulo Theories", 2009); a search by
-/// clause learning then finds values for the instances, and classes of ground terms that they make equal
-/// are the elements of the world.
+/// finitely many since functions lead from lower sorts to higher ones (Yeting Ge and Leonardo de
+/// Moura, "Complete Instantiation for Quantified Formulas in Satisfiability Modulo Theories", 2009);
+/// a search by clause learning then finds values for the instances, and classes of ground terms that
+/// they make equal are the elements of the world.
 #[derive(Debug, Drop)]
 pub struct Engine {
     limit: u64,
-    ghost light: { limit ≤ 4000000 },
+    ghost light: { limit ≤ MOST_WEIGHT },
 }
 
 impl Engine {
-    /// A finder with this limit, which is at most 4,000,000. It takes no memory.
+    /// A finder with this limit, which is at most [`fo_core::MOST_WEIGHT`]. It takes no memory.
     pub fn new(limit: u64) -> Engine
-        requires { limit ≤ 4000000 }
+        requires { limit ≤ MOST_WEIGHT }
         ensures { ⟦<Engine as Finder>⟧.limit result ≡ limit }
     {
         Engine { limit }
@@ -37,16 +38,16 @@ impl Finder for Engine {
         order: &Order,
         q: &Query,
     ) -> Result<Found, AllocError> {
-        answer(alloc, &sys.sig, order, q, self.limit)
+        answer(alloc, sys, order, q, self.limit)
     }
 }
 
-/// What makes engines of one limit, which is at most 4,000,000.
+/// What makes engines of one limit, which is at most [`fo_core::MOST_WEIGHT`].
 #[derive(Debug, Drop)]
 pub struct Engines {
     /// The limit of each engine that it makes.
     pub limit: u64,
-    ghost light: { limit ≤ 4000000 },
+    ghost light: { limit ≤ MOST_WEIGHT },
 }
 
 impl Finders for Engines {

@@ -3,11 +3,7 @@
 
 mod engine;
 mod recorded;
-mod same;
 mod search;
 
 pub use engine::{Engine, Engines};
-pub use recorded::{Kept, Recorded};
-
-#[cfg(test)]
-mod tests;
+pub use recorded::{Answered, Recorded};

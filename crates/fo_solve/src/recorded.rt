@@ -1,12 +1,9 @@
 ghost use Rattle.std.specs.Prelude.{◌≡◌, ◌≤◌, [], OnOk, OnErr, IfOk, MatchOption};
 ghost use Rattle.fo_core.specs.declared.finder.Found.{Found};
-ghost use Rattle.fo_core.specs.Finds.{IsAnswer};
-ghost use Rattle.fo_core.specs.Queries.{IsQuery};
-ghost use Rattle.fo_core.specs.SortGraph.{ClaimsEdge, Rises};
-ghost use Rattle.fo_core.specs.Sorted.{IsSig};
-ghost use Rattle.fo_solve.specs.Kept.{KeepsOne, IsNext, with_one_given};
+ghost use Rattle.fo_core.specs.declared.query.TheConstants.{MOST_WEIGHT};
+ghost use Rattle.fo_core.specs.Finds.{CanSearch, IsAnswer};
+ghost use Rattle.fo_solve.specs.Answering.{KeepsOne, IsNext, with_one_given};
 
-use crate::same::{same_query, same_system};
 use crate::search::answer;
 use fo_core::{Finder, Found, Order, Query, System};
 use std::alloc::{AllocError, Global};
@@ -14,22 +11,34 @@ use std::marker::Model;
 
 /// A query with its answer.
 #[derive(Debug, Drop)]
-pub struct Kept {
+pub struct Answered {
     /// The query that was asked.
     pub query: Query,
     /// What an engine answered.
     pub answer: Found,
 }
 
-/// A finder for tests. It keeps answers to queries of one system, and hands them out in the order in which
-/// they were kept: where the system and the query that it is asked are those of the next one. It finds any
-/// other answer anew. Contracts see its system, its limit, the queries that it keeps with their answers, and
-/// how many of these it has handed out.
+impl Answered {
+    /// A copy.
+    pub fn copy(&self, alloc: Global) -> Result<Answered, AllocError>
+        ensures { IfOk result (λ a. a ≡ self.now) }
+    {
+        Ok(Answered {
+            query: self.query.copy(alloc)?,
+            answer: self.answer.copy(alloc)?,
+        })
+    }
+}
+
+/// A finder for tests. It keeps answers to queries of one system, and hands them out in the order
+/// in which they were kept: where the system and the query that it is asked are those of the next
+/// one. It finds any other answer anew. Contracts see its system, its limit, the queries that it
+/// keeps with their answers, and how many of these it has handed out.
 #[derive(Debug, Drop)]
 pub struct Recorded {
     sys: System,
     limit: u64,
-    kept: Vec<Kept>,
+    kept: Vec<Answered>,
     given: usize,
 }
 
@@ -37,7 +46,8 @@ impl Model for Recorded {
     ghost use Rattle.std.specs.Prelude.{◌≤◌};
     ghost use Rattle.std.specs.Coded.{codes};
     ghost use Rattle.fo_core.specs.contracts.formula.Formula as formula;
-    ghost use Rattle.fo_solve.specs.Kept.{Record, AreAnswers};
+    ghost use Rattle.fo_solve.specs.Answering.{Record, AreAnswers};
+    ghost use Rattle.fo_core.specs.declared.query.TheConstants.{MOST_WEIGHT};
 
     ghost Value = { Record };
 
@@ -45,25 +55,14 @@ impl Model for Recorded {
 
     ghost view = { λ r. record { sys = r.sys; limit = r.limit; kept = r.kept.items; given = r.given } };
 
-    ghost invariant = { λ r. (r.limit ≤ 4000000) × AreAnswers r.sys.sig r.limit r.kept.items };
-}
-
-/// A copy of an answer.
-fn copied(alloc: Global, found: &Found) -> Result<Found, AllocError>
-    ensures { IfOk result (λ f. f ≡ found.now) }
-{
-    Ok(match found {
-        Found::Model(world) => Found::Model(world.copy(alloc)?),
-        Found::Nothing => Found::Nothing,
-        Found::Over(weight) => Found::Over(*weight),
-    })
+    ghost invariant = { λ r. (r.limit ≤ MOST_WEIGHT) × AreAnswers r.sys.sig r.limit r.kept.items };
 }
 
 impl Recorded {
-    /// A finder for this system with this limit, which is at most 4,000,000. It keeps a copy of the system, and no
-    /// answers yet. The one error is want of memory.
+    /// A finder for this system with this limit, which is at most [`fo_core::MOST_WEIGHT`]. It
+    /// keeps a copy of the system, and no answers yet. The one error is out of memory.
     pub fn new(alloc: Global, sys: &System, limit: u64) -> Result<Recorded, AllocError>
-        requires { limit ≤ 4000000 }
+        requires { limit ≤ MOST_WEIGHT }
         ensures { IfOk result (λ r. r ≡ record { sys = sys.now; limit = limit; kept = []; given = 0 }) }
     {
         Ok(Recorded {
@@ -79,25 +78,23 @@ impl Recorded {
         ensures { MatchOption result ((answer : Found) → ¬ IsNext self.now sys.now q.now answer) (λ answer. IsNext self.now sys.now q.now answer.now) }
     {
         let kept = self.kept.get(self.given)?;
-        if same_system(sys, &self.sys) && same_query(q, &kept.query) {
+        if sys.same(&self.sys) && q.same(&kept.query) {
             Some(&kept.answer)
         } else {
             None
         }
     }
 
-    /// Finds the answer to a query of its system, and keeps both. It asks for what `find` asks. Where memory is
-    /// wanting, nothing changes.
+    /// Finds the answer to a query of its system, and keeps both. It asks for what `find` asks.
+    /// After an error, which is out of memory, nothing has changed.
     pub fn keep(&mut self, alloc: Global, order: &Order, q: &Query) -> Result<(), AllocError>
-        requires sig { IsSig self.old.sys.sig }
-        requires query { IsQuery self.old.sys.sig q.now }
-        requires order { Rises (ClaimsEdge self.old.sys.sig q.now.claims) self.old.sys.sig.sorts order.now.numbers }
+        requires { CanSearch self.old.sys order.now q.now }
         ensures kept { OnOk result (KeepsOne self.old q.now self.new) }
         ensures err { OnErr result (self.new ≡ self.old) }
     {
-        let answer = answer(alloc, &self.sys.sig, order, q, self.limit)?;
+        let answer = answer(alloc, &self.sys, order, q, self.limit)?;
         let query = q.copy(alloc)?;
-        self.kept.push(Kept { query, answer })?;
+        self.kept.push(Answered { query, answer })?;
         Ok(())
     }
 }
@@ -112,9 +109,7 @@ impl Finder for Recorded {
         order: &Order,
         q: &Query,
     ) -> Result<Found, AllocError>
-        requires sig { IsSig sys.now.sig }
-        requires query { IsQuery sys.now.sig q.now }
-        requires order { Rises (ClaimsEdge sys.now.sig q.now.claims) sys.now.sig.sorts order.now.numbers }
+        requires search { CanSearch sys.now order.now q.now }
         ensures found { IfOk result (IsAnswer sys.now.sig q.now self.old.limit) }
         ensures limit { self.new.limit ≡ self.old.limit }
         ensures handed { (answer : Found) → IsNext self.old sys.now q.now answer → OnOk result (self.new ≡ with_one_given self.old) }
@@ -123,9 +118,9 @@ impl Finder for Recorded {
         ensures err { OnErr result (self.new ≡ self.old) }
     {
         let Some(kept) = self.next(sys, q) else {
-            return answer(alloc, &sys.sig, order, q, self.limit);
+            return answer(alloc, sys, order, q, self.limit);
         };
-        let found = copied(alloc, kept)?;
+        let found = kept.copy(alloc)?;
         self.given += 1;
         Ok(found)
     }

@@ -9,8 +9,7 @@ use Rattle.fo_core.specs.Sorted.{IsSig}
 use Rattle.fo_core.specs.Tables.{symbol_at}
 use Rattle.fo_core.specs.Weights.{added, power}
 use Rattle.fo_norm.specs.declared.form.SkolemForm.{SkolemForm}
-use Rattle.fo_core.specs.Skolems.{extended}
-use Rattle.fo_norm.specs.Forms.{IsForm}
+use Rattle.fo_norm.specs.Forms.{whole, IsForm}
 use Rattle.fo_terms.specs.Arranged.{IsArranged}
 use Rattle.fo_terms.specs.Blocks.{AreBases, AreFirsts, IsRanking, function_numbers, sort_block}
 use Rattle.fo_core.specs.TermCounts.{term_counts, AreCounts}
@@ -27,16 +26,20 @@ use Rattle.fo_terms.proofs.UniverseLemmas.{ends-within, is-arranged, is-universe
 pub uncut : (U counts : List ℕ) → AreFew U → counts ≡ map cut U → counts ≡ U
 uncut U counts few is = is ∙ map_cut-small U (λ k lt. cut-small (get_or U k 0) (omega (arith, few.each k 0 lt)))
 
-module _ (sig : Sig) (form : SkolemForm) (numbers ranked : List ℕ) (is : IsSig sig) (of : IsForm sig form) (rises : Rises (FunctionEdge (extended sig form.skolems)) sig.sorts numbers)
-    (ranking : IsRanking numbers ranked) (few : AreFew (term_counts (extended sig form.skolems) form.copies)) where
+module _ (sig : Sig) (form : SkolemForm) (numbers ranked : List ℕ) (is : IsSig sig) (of : IsForm sig form) (rises : Rises (FunctionEdge (whole sig form)) sig.sorts numbers)
+    (ranking : IsRanking numbers ranked) (few : AreFew (term_counts (whole sig form) form.copies)) where
   abbrev S : Sig
-  S = extended sig form.skolems
+  S = whole sig form
 
   abbrev U : List ℕ
   U = term_counts S form.copies
 
   solved : AreCounts S form.copies U
   solved = counts-solve S form.copies numbers rises (whole_sorts sig form is of)
+
+  -- there is a number for each sort
+  pub counted : (counts : List ℕ) → counts ≡ map cut U → length counts ≡ sig.sorts
+  counted counts e = ap length (uncut U counts few e) ∙ solved.one_each
 
   pub sorts-known : All (λ s. s < length U) ranked
   sorts-known = All-weaker (λ s. s < length numbers) (λ s. s < length U) (λ s lt. omega (arith, rises.one_each, solved.one_each)) ranked (ranked-within numbers ranked ranking)

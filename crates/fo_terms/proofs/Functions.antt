@@ -12,17 +12,16 @@ use Rattle.fo_core.specs.Sorted.{HasSorts, IsSig}
 use Rattle.fo_core.specs.Tables.{no_symbol, symbol_at}
 use Rattle.fo_core.specs.Weights.{added}
 use Rattle.fo_norm.specs.declared.form.SkolemForm.{SkolemForm}
-use Rattle.fo_core.specs.Skolems.{extended}
-use Rattle.fo_norm.specs.Forms.{IsForm, IsSkolem}
+use Rattle.fo_norm.specs.Forms.{whole, IsForm, IsSkolem}
 use Rattle.fo_terms.specs.Blocks.{function_numbers}
 use Rattle.fo_core.specs.TermCounts.{leads_to, applications, functions_to, count_over}
 use Rattle.fo_terms.proofs.Sums.{added-map}
 
 -- a form's symbols together have sorts of the signature
-pub whole_sorts : (sig : Sig) (form : SkolemForm) → IsSig sig → IsForm sig form → All (HasSorts sig.sorts) (extended sig form.skolems).symbols
+pub whole_sorts : (sig : Sig) (form : SkolemForm) → IsSig sig → IsForm sig form → All (HasSorts sig.sorts) (whole sig form).symbols
 whole_sorts sig form is of = All-append (HasSorts sig.sorts) sig.symbols form.skolems is.sorts (All-weaker (IsSkolem sig.sorts) (HasSorts sig.sorts) (λ s h. h.sorts) form.skolems of.skolems)
 
-pub whole_few : (sig : Sig) (form : SkolemForm) → IsForm sig form → length (extended sig form.skolems).symbols < 2 ^ 32 - 1
+pub whole_few : (sig : Sig) (form : SkolemForm) → IsForm sig form → length (whole sig form).symbols < 2 ^ 32 - 1
 whole_few sig form of = omega (arith, of.few, length-append sig.symbols form.skolems)
 
 pub nonzero : (n : ℕ) → 0 < n → (n == 0) ≡ false

@@ -6,9 +6,7 @@ pub mod Cuts
 pub mod Functions
 pub mod ListLemmas
 pub mod NodeRows
-pub mod PlaceSteps
 pub mod RankLemmas
-pub mod Reckoned
 pub mod Rising
 pub mod Sums
 pub mod TupleLemmas

@@ -1,18 +1,15 @@
 -- Tuples of arguments by their numbers.
-use Rattle.std.proofs.Common.{◌≡◌, ◌↔◌, ℕ, ◌+◌, ◌-◌, ◌*◌, ◌/◌, ◌%◌, ◌<◌, ◌≤◌, List, [], ◌∷◌, map, refl, ap, ◌∙◌, arith}
+use Rattle.std.proofs.Common.{◌≡◌, ◌↔◌, ℕ, ◌+◌, ◌-◌, ◌<◌, ◌≤◌, List, [], ◌∷◌, map, refl, ap, ◌∙◌, arith}
 use Rattle.std.specs.List.{All, AllZip}
 use Rattle.std.specs.Prelude.{slice_index}
-use Rattle.std.proofs.Math.Nat.{mod-lt, div-lt_iff_lt-mul}
 use Rattle.std.proofs.lemmas.List.Elements.{All-head, All-tail, All-nil, All-cons}
-use Rattle.std.proofs.lemmas.Nat.{div-mul-add, mod-mul-add, div-add-mod'}
-use Rattle.fo_core.specs.Tables.{tuples, place}
+use Rattle.fo_core.specs.Tables.{place}
 use Rattle.fo_core.specs.Weights.{power}
 use Rattle.fo_core.proofs.TupleLemmas.{tuple-place, tuple-below, place-tuple}
 use Rattle.fo_terms.specs.declared.terms.Ground.{Ground}
 use Rattle.fo_terms.specs.Arranged.{offsets}
 use Rattle.fo_terms.specs.Blocks.{arguments_at, raised}
 use Rattle.fo_terms.specs.Universe.{IsOf, AreOf}
-use Rattle.fo_terms.proofs.BaseLemmas.{factor-positive}
 use Rattle.fo_core.specs.Tuples.{tuple_at}
 
 -- where the terms of these sorts stand from their first places on

@@ -21,7 +21,8 @@ use Rattle.fo_terms.proofs.CountLemmas.{before, counts-solve}
 use Rattle.fo_terms.proofs.Functions.{count-none, count-some, leads_to-is, numbers-are}
 use Rattle.fo_terms.proofs.RankLemmas.{ranked-at, ranked-total, ranked-within}
 use Rattle.fo_terms.proofs.Sums.{added-at, added-more, added-same, added-take, length-flat_map}
-use Rattle.fo_terms.proofs.TupleLemmas.{InBlock, arguments-before, arguments-place, offsets-below, place-arguments, raised-are, tuple-below}
+use Rattle.fo_core.proofs.TupleLemmas.{tuple-below}
+use Rattle.fo_terms.proofs.TupleLemmas.{InBlock, arguments-before, arguments-place, offsets-below, place-arguments, raised-are}
 use Rattle.fo_core.specs.Tuples.{tuple_at}
 
 module _ (sig : Sig) (n : ℕ) (numbers ranked firsts : List ℕ) (some_copy : 1 ≤ n) (few : length sig.symbols < spare) (sorted : All (HasSorts sig.sorts) sig.symbols)

@@ -5,13 +5,14 @@ use Rattle.std.proofs.lemmas.Bool.{cases_lt}
 use Rattle.std.proofs.lemmas.List.Elements.{All-from_get_or, All-weaker}
 use Rattle.std.proofs.lemmas.Nat.{mul-le}
 use Rattle.fo_core.specs.declared.query.Query.{Query}
+use Rattle.fo_core.specs.declared.query.TheConstants.{MOST_WEIGHT}
 use Rattle.fo_core.specs.declared.signature.Sig.{Sig}
 use Rattle.fo_core.specs.declared.signature.Symbol.{Symbol}
 use Rattle.fo_core.specs.Skolems.{skolem_symbols_list, extended}
 use Rattle.fo_core.specs.Sorted.{IsFormula}
 use Rattle.fo_core.specs.Weights.{added, claim_nodes, skolem_nodes}
 use Rattle.fo_norm.specs.declared.form.SkolemForm.{SkolemForm}
-use Rattle.fo_norm.specs.Forms.{IsForm}
+use Rattle.fo_norm.specs.Forms.{whole, IsForm}
 use Rattle.fo_core.specs.TermCounts.{term_counts}
 use Rattle.fo_terms.specs.FormWeight.{AreFew, form_weight}
 use Rattle.fo_terms.specs.Weighable.{CanWeigh}
@@ -22,8 +23,8 @@ use Rattle.fo_terms.proofs.Sums.{added-at}
 -- a form's claims can be weighed
 pub claims-weigh : (sig : Sig) (form : SkolemForm) (n : ℕ) → IsForm sig form → n ≡ sig.sorts → All (CanWeigh n) form.claims
 claims-weigh sig form n of e =
-    All-weaker (λ f. IsFormula (extended sig form.skolems) form.copies f []) (CanWeigh n)
-    (λ f h. record { sig = extended sig form.skolems; copies = form.copies; variables = []; sorted = h; sorts = sym e }) form.claims of.claims
+    All-weaker (λ f. IsFormula (whole sig form) form.copies f []) (CanWeigh n)
+    (λ f h. record { sig = whole sig form; copies = form.copies; variables = []; sorted = h; sorts = sym e }) form.claims of.claims
 
 -- either nothing is cut, or the sorts alone weigh as much as there can be
 cut-or_heavy : (xs : List ℕ) → (map cut xs ≡ xs) ⊎ ((18446744073709551615 ≤ added sort_weight xs) × (18446744073709551615 ≤ added sort_weight (map cut xs)))
@@ -64,8 +65,8 @@ sum-weight : (xs : List ℕ) → added (λ x. x) xs ≤ added sort_weight xs
 sum-weight [] = omega arith
 sum-weight (x ∷ xs) = omega (arith, sum-weight xs)
 
--- a weight of at most 4,000,000 leaves few terms
-pub few_of_weight : (sig : Sig) (form : SkolemForm) (U : List ℕ) → form_weight sig form U ≤ 4000000 → AreFew U
+-- a weight within the limit leaves few terms
+pub few_of_weight : (sig : Sig) (form : SkolemForm) (U : List ℕ) → form_weight sig form U ≤ MOST_WEIGHT → AreFew U
 few_of_weight sig form U le =
     let sorts : added sort_weight U ≤ 4000000 =
     within (claim_nodes U form.claims + skolem_nodes U form.skolems) (added sort_weight U) (added (symbol_weight form.copies U) sig.symbols) le in
@@ -79,8 +80,8 @@ few_of_weight sig form U le =
 
 -- the weight of a query is that of its Skolem form
 pub weight-query : (sig : Sig) (q : Query) (form : SkolemForm) → form.copies ≡ q.copies → form.skolems ≡ skolem_symbols_list true q.claims [] → ((U : List ℕ) → claim_nodes U q.claims ≡ claim_nodes U form.claims + skolem_nodes U form.skolems) →
-    form_weight sig form (term_counts (extended sig form.skolems) form.copies) ≡ query_weight sig q
+    form_weight sig form (term_counts (whole sig form) form.copies) ≡ query_weight sig q
 weight-query sig q form copies skolems nodes =
-    ap (λ m. cut (m + signature_weight sig form.copies (term_counts (extended sig form.skolems) form.copies))) (sym (nodes (term_counts (extended sig form.skolems) form.copies)))
-    ∙ ap (λ n. cut (claim_nodes (term_counts (extended sig form.skolems) n) q.claims + signature_weight sig n (term_counts (extended sig form.skolems) n))) copies
+    ap (λ m. cut (m + signature_weight sig form.copies (term_counts (whole sig form) form.copies))) (sym (nodes (term_counts (whole sig form) form.copies)))
+    ∙ ap (λ n. cut (claim_nodes (term_counts (whole sig form) n) q.claims + signature_weight sig n (term_counts (whole sig form) n))) copies
     ∙ ap (λ (ss : List Symbol). cut (claim_nodes (term_counts (extended sig ss) q.copies) q.claims + signature_weight sig q.copies (term_counts (extended sig ss) q.copies))) skolems

@@ -1,5 +1,5 @@
 -- The list of ground terms, written out sort by sort.
-use Rattle.std.specs.Prelude.{◌≡◌, ℕ, ◌+◌, ◌^◌, ◌<◌, ◌≤◌, ◌==◌, cond, List, [], ◌∷◌, length, map, take, slice_index}
+use Rattle.std.specs.Prelude.{◌≡◌, ℕ, ◌+◌, ◌<◌, ◌≤◌, ◌==◌, cond, List, [], ◌∷◌, length, map, take, slice_index}
 use Rattle.std.specs.List.{filter, flat_map, range_with_len}
 use Rattle.std.specs.List.Sorted.{IsPermutation}
 use Rattle.fo_core.specs.declared.signature.Sig.{Sig}
@@ -9,7 +9,7 @@ use Rattle.fo_core.specs.Tuples.{tuple_at}
 use Rattle.fo_core.specs.Weights.{added, power}
 use Rattle.fo_terms.specs.declared.terms.Ground.{Ground}
 use Rattle.fo_core.specs.TermCounts.{leads_to, copies_of}
-use Rattle.fo_terms.specs.Universe.{spare}
+use Rattle.fo_terms.specs.Universe.{IsU32, spare}
 
 -- the sorts in an order in which their numbers never fall
 pub record IsRanking (numbers : List ℕ) (ranked : List ℕ) : Type 0 where
@@ -39,7 +39,7 @@ spare_of t = record { symbol = spare; copy = 0; args = []; sort = t }
 pub record AreBases (firsts sizes : List ℕ) : Type 0 where
   pub one_each : length firsts ≡ length sizes
   pub some : (s : ℕ) → s < length sizes → 1 ≤ slice_index sizes s
-  pub few : (s : ℕ) → s < length sizes → slice_index firsts s + slice_index sizes s < 2 ^ 32
+  pub few : (s : ℕ) → s < length sizes → IsU32 (slice_index firsts s + slice_index sizes s)
 
 -- where the sorts have these first places and numbers of terms
 module _ (firsts sizes : List ℕ) where

@@ -2,6 +2,5 @@ pub mod Arranged
 pub mod Blocks
 pub mod Entries
 pub mod FormWeight
-pub mod Places
 pub mod Universe
 pub mod Weighable

@@ -1,10 +1,14 @@
 -- Ground terms. An argument is named by the place at which it stands in a list of ground terms.
-use Rattle.std.specs.Prelude.{◌≡◌, ℕ, ◌<◌, ◌⊎◌, false, List, [], length, slice_index_or}
+use Rattle.std.specs.Prelude.{◌≡◌, ℕ, ◌<◌, ◌^◌, ◌⊎◌, false, List, [], length, slice_index_or}
 use Rattle.std.specs.List.{All, AllZip}
 use Rattle.fo_core.specs.declared.signature.Sig.{Sig}
 use Rattle.fo_core.specs.Sorted.{IsSymbol}
 use Rattle.fo_core.specs.Tables.{symbol_at}
 use Rattle.fo_terms.specs.declared.terms.Ground.{Ground}
+
+-- a number of 32 bits
+abbrev pub IsU32 : ℕ → Type 0
+IsU32 n = n < 2 ^ 32
 
 -- the symbol number of a spare constant, which is no symbol's
 abbrev pub spare : ℕ

@@ -1,16 +1,16 @@
-ghost use Rattle.std.specs.Prelude.{◌≡◌, ◌≢◌, ◌<◌, ◌^◌, ◌++◌, length, slice_index, IfOk, OnOk};
+ghost use Rattle.std.specs.Prelude.{◌≡◌, ◌≢◌, ◌<◌, ◌++◌, length, map, slice_index, IfOk, OnOk};
 ghost use Rattle.std.specs.List.{All, AllPairs};
 ghost use Rattle.fo_core.specs.SortGraph.{FunctionEdge, Rises};
 ghost use Rattle.fo_core.specs.Sorted.{IsSig};
 ghost use Rattle.fo_core.specs.Tables.{symbol_at};
+ghost use Rattle.fo_core.specs.QueryWeight.{cut};
 ghost use Rattle.fo_core.specs.Weights.{added, power};
-ghost use Rattle.fo_core.specs.Skolems.{extended};
-ghost use Rattle.fo_norm.specs.Forms.{IsForm};
+ghost use Rattle.fo_norm.specs.Forms.{whole, IsForm};
 ghost use Rattle.fo_terms.specs.Arranged.{IsArranged};
 ghost use Rattle.fo_terms.specs.Blocks.{AreFirsts, AreBases, function_numbers, arguments_at, copy_block, function_block, sort_block};
 ghost use Rattle.fo_core.specs.TermCounts.{term_counts};
 ghost use Rattle.fo_terms.specs.FormWeight.{AreFew};
-ghost use Rattle.fo_terms.specs.Universe.{IsUniverse};
+ghost use Rattle.fo_terms.specs.Universe.{IsU32, IsUniverse};
 
 use crate::counting::{copies_of, counts, tuples};
 use crate::ranking::ranked;
@@ -34,7 +34,7 @@ struct Sizes {
 fn firsts(alloc: Global, ranked: &[u32], counts: &[u64]) -> Result<Seq<u32>, AllocError>
     requires sorts { All (λ s. s < length counts.now) ranked.now }
     requires once { AllPairs (λ s t. s ≢ t) ranked.now }
-    requires few { added (slice_index counts.now) ranked.now < 2 ^ 32 }
+    requires few { IsU32 (added (slice_index counts.now) ranked.now) }
     ensures { IfOk result (λ firsts. AreFirsts ranked.now counts.now firsts) }
 {
     let mut firsts = vec![in alloc; 0u32; counts.len()]?;
@@ -85,7 +85,7 @@ fn push_copy(
 ) -> Result<(), AllocError>
     requires bases { AreBases sizes.now.firsts sizes.now.counts }
     requires sorts { All (λ s. s < length sizes.now.counts) symbol.now.args }
-    requires few { power sizes.now.counts symbol.now.args < 2 ^ 32 }
+    requires few { IsU32 (power sizes.now.counts symbol.now.args) }
     ensures { OnOk result (terms.new ≡ terms.old ++ copy_block sizes.now.firsts sizes.now.counts number symbol.now copy) }
 {
     let sorts = symbol.args.as_slice();
@@ -112,7 +112,7 @@ fn push_function(
 ) -> Result<(), AllocError>
     requires bases { AreBases sizes.now.firsts sizes.now.counts }
     requires sorts { All (λ s. s < length sizes.now.counts) symbol.now.args }
-    requires few { power sizes.now.counts symbol.now.args < 2 ^ 32 }
+    requires few { IsU32 (power sizes.now.counts symbol.now.args) }
     ensures { OnOk result (terms.new ≡ terms.old ++ function_block sizes.now.firsts sizes.now.counts copies number symbol.now) }
 {
     'each: for copy in 0..copies_of(symbol, copies) {
@@ -135,9 +135,9 @@ fn push_sort(
     requires form { IsForm sig.now form.now }
     requires bases { AreBases sizes.now.firsts sizes.now.counts }
     requires sorts { length sizes.now.counts ≡ sig.now.sorts }
-    requires functions { functions.now ≡ function_numbers (extended sig.now form.now.skolems) sort }
-    requires few { All (λ k. power sizes.now.counts (symbol_at (extended sig.now form.now.skolems) k).args < 2 ^ 32) functions.now }
-    ensures { OnOk result (terms.new ≡ terms.old ++ sort_block sizes.now.firsts sizes.now.counts (extended sig.now form.now.skolems) form.now.copies sort) }
+    requires functions { functions.now ≡ function_numbers (whole sig.now form.now) sort }
+    requires few { All (λ k. IsU32 (power sizes.now.counts (symbol_at (whole sig.now form.now) k).args)) functions.now }
+    ensures { OnOk result (terms.new ≡ terms.old ++ sort_block sizes.now.firsts sizes.now.counts (whole sig.now form.now) form.now.copies sort) }
 {
     if functions.is_empty() {
         return terms.push(Ground {
@@ -154,12 +154,12 @@ fn push_sort(
     Ok(())
 }
 
-/// All ground terms of a form, each once and behind its arguments. They are the applications of the
+/// All ground terms of a form, each once and after its arguments. They are the applications of the
 /// functions of the signature, in all copies of the form, and of the Skolem functions, to ground
 /// terms, and one spare constant of each sort that has no other term (the Herbrand universe).
 ///
-/// It asks for what `counts` asks, for at most 158 terms of each sort, and for fewer than 2^32 terms.
-/// The one error is want of memory.
+/// It asks for what [`counts`] asks, for at most [`crate::MOST_TERMS`] terms of each sort, and for
+/// fewer than 2^32 terms. The one error is out of memory.
 pub fn universe(
     alloc: Global,
     sig: &Sig,
@@ -168,12 +168,34 @@ pub fn universe(
 ) -> Result<Universe, AllocError>
     requires sig { IsSig sig.now }
     requires form { IsForm sig.now form.now }
-    requires order { Rises (FunctionEdge (extended sig.now form.now.skolems)) sig.now.sorts order.now.numbers }
-    requires few { AreFew (term_counts (extended sig.now form.now.skolems) form.now.copies) }
-    ensures universe { IfOk result (λ u. IsUniverse (extended sig.now form.now.skolems) form.now.copies u.terms) }
-    ensures arranged { IfOk result (λ u. IsArranged (extended sig.now form.now.skolems) form.now.copies u) }
+    requires order { Rises (FunctionEdge (whole sig.now form.now)) sig.now.sorts order.now.numbers }
+    requires few { AreFew (term_counts (whole sig.now form.now) form.now.copies) }
+    ensures universe { IfOk result (λ u. IsUniverse (whole sig.now form.now) form.now.copies u.terms) }
+    ensures arranged { IfOk result (λ u. IsArranged (whole sig.now form.now) form.now.copies u) }
 {
     let counts = counts(alloc, sig, form, order)?;
+    universe_from(alloc, sig, form, order, counts)
+}
+
+/// What [`universe`] gives, from the numbers of terms that [`counts`] gave for the form: so a caller
+/// that has counted them, to weigh the form, doesn't count them again.
+///
+/// It asks for what [`universe`] asks. The one error is out of memory.
+pub fn universe_from(
+    alloc: Global,
+    sig: &Sig,
+    form: &SkolemForm,
+    order: &Order,
+    counts: Seq<u64>,
+) -> Result<Universe, AllocError>
+    requires sig { IsSig sig.now }
+    requires form { IsForm sig.now form.now }
+    requires order { Rises (FunctionEdge (whole sig.now form.now)) sig.now.sorts order.now.numbers }
+    requires few { AreFew (term_counts (whole sig.now form.now) form.now.copies) }
+    requires counts { counts ≡ map cut (term_counts (whole sig.now form.now) form.now.copies) }
+    ensures universe { IfOk result (λ u. IsUniverse (whole sig.now form.now) form.now.copies u.terms) }
+    ensures arranged { IfOk result (λ u. IsArranged (whole sig.now form.now) form.now.copies u) }
+{
     let functions = functions(alloc, sig, form)?;
     let ranked = ranked(alloc, sig.sorts, order)?;
     let firsts = firsts(alloc, ranked.as_slice(), counts.as_slice())?;

@@ -3,8 +3,7 @@ ghost use Rattle.std.specs.List.{All};
 ghost use Rattle.fo_core.specs.SortGraph.{FunctionEdge, Rises};
 ghost use Rattle.fo_core.specs.Sorted.{HasSorts, IsSig};
 ghost use Rattle.fo_core.specs.Weights.{power};
-ghost use Rattle.fo_core.specs.Skolems.{extended};
-ghost use Rattle.fo_norm.specs.Forms.{IsForm};
+ghost use Rattle.fo_norm.specs.Forms.{whole, IsForm};
 ghost use Rattle.fo_terms.specs.Blocks.{function_numbers};
 ghost use Rattle.fo_core.specs.TermCounts.{copies_of as copies_in, applications as applications_of, count_over, term_counts, AreCounts};
 ghost use Rattle.fo_core.specs.QueryWeight.{cut};
@@ -49,9 +48,9 @@ pub fn applications(symbol: &Symbol, copies: u32, counts: &[u64]) -> u64
 fn sort_count(sig: &Sig, form: &SkolemForm, sort: u32, functions: &[u32], counts: &[u64]) -> u64
     requires sig { IsSig sig.now }
     requires form { IsForm sig.now form.now }
-    requires functions { functions.now ≡ function_numbers (extended sig.now form.now.skolems) sort }
+    requires functions { functions.now ≡ function_numbers (whole sig.now form.now) sort }
     requires counts { length counts.now ≡ sig.now.sorts }
-    ensures { result ≡ cut (count_over (extended sig.now form.now.skolems) form.now.copies counts.now sort) }
+    ensures { result ≡ cut (count_over (whole sig.now form.now) form.now.copies counts.now sort) }
 {
     if functions.is_empty() {
         return 1;
@@ -79,9 +78,9 @@ pub fn counts(
 ) -> Result<Seq<u64>, AllocError>
     requires sig { IsSig sig.now }
     requires form { IsForm sig.now form.now }
-    requires order { Rises (FunctionEdge (extended sig.now form.now.skolems)) sig.now.sorts order.now.numbers }
-    ensures counts { IfOk result (λ counts. counts ≡ map cut (term_counts (extended sig.now form.now.skolems) form.now.copies)) }
-    ensures equations { IfOk result (λ _. AreCounts (extended sig.now form.now.skolems) form.now.copies (term_counts (extended sig.now form.now.skolems) form.now.copies)) }
+    requires order { Rises (FunctionEdge (whole sig.now form.now)) sig.now.sorts order.now.numbers }
+    ensures counts { IfOk result (λ counts. counts ≡ map cut (term_counts (whole sig.now form.now) form.now.copies)) }
+    ensures equations { IfOk result (λ _. AreCounts (whole sig.now form.now) form.now.copies (term_counts (whole sig.now form.now) form.now.copies)) }
 {
     let functions = functions(alloc, sig, form)?;
     let ranked = ranked(alloc, sig.sorts, order)?;

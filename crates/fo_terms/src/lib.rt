@@ -3,7 +3,6 @@
 
 mod build;
 mod counting;
-mod places;
 mod ranking;
 mod symbols;
 mod terms;
@@ -11,10 +10,9 @@ mod terms;
 mod tests;
 mod weighing;
 
-pub use build::universe;
-pub use counting::counts;
-pub use places::Places;
+pub use build::{universe, universe_from};
+pub use counting::{copies_of, counts};
 pub use ranking::rises;
 pub use symbols::symbol_of;
-pub use terms::{Ground, Universe};
+pub use terms::{Ground, MOST_TERMS, Universe};
 pub use weighing::weight;

@@ -3,8 +3,7 @@ ghost use Rattle.std.specs.List.{All};
 ghost use Rattle.fo_core.specs.SortGraph.{FunctionEdge, Rises};
 ghost use Rattle.fo_core.specs.Sorted.{HasSorts, IsSig};
 ghost use Rattle.fo_core.specs.Tables.{symbol_at};
-ghost use Rattle.fo_core.specs.Skolems.{extended};
-ghost use Rattle.fo_norm.specs.Forms.{IsForm};
+ghost use Rattle.fo_norm.specs.Forms.{whole, IsForm};
 ghost use Rattle.fo_terms.specs.Blocks.{IsRanking};
 ghost use Rattle.fo_terms.specs.Entries.{entries_of};
 
@@ -68,7 +67,7 @@ fn rises_to(symbol: &Symbol, numbers: &[u32]) -> bool
 pub fn rises(sig: &Sig, form: &SkolemForm, order: &Order) -> bool
     requires sig { IsSig sig.now }
     requires form { IsForm sig.now form.now }
-    ensures { IsTrue result ↔ Rises (FunctionEdge (extended sig.now form.now.skolems)) sig.now.sorts order.now.numbers }
+    ensures { IsTrue result ↔ Rises (FunctionEdge (whole sig.now form.now)) sig.now.sorts order.now.numbers }
 {
     if order.numbers.len() != sig.sorts as usize {
         return false;

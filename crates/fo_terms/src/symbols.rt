@@ -1,8 +1,7 @@
 ghost use Rattle.std.specs.Prelude.{◌≡◌, ℕ, ◌<◌, [], ◌∷◌, ◌++◌, cond, length, slice_index_or, IfOk, OnOk};
 ghost use Rattle.fo_core.specs.Sorted.{HasSorts, IsSig};
 ghost use Rattle.fo_core.specs.Tables.{symbol_at};
-ghost use Rattle.fo_core.specs.Skolems.{extended};
-ghost use Rattle.fo_norm.specs.Forms.{IsForm};
+ghost use Rattle.fo_norm.specs.Forms.{whole, IsForm};
 ghost use Rattle.fo_core.specs.TermCounts.{leads_to};
 ghost use Rattle.fo_terms.specs.Blocks.{function_numbers};
 
@@ -13,8 +12,8 @@ use std::alloc::{AllocError, Global};
 /// The symbol with this number: one of the signature, or a Skolem function of the form, which are
 /// numbered behind these. There has to be such a symbol.
 pub fn symbol_of<'a>(sig: &'a Sig, form: &'a SkolemForm, number: u32) -> &'a Symbol
-    requires { number < length (extended sig.now form.now.skolems).symbols }
-    ensures { result.now ≡ symbol_at (extended sig.now form.now.skolems) number }
+    requires { number < length (whole sig.now form.now).symbols }
+    ensures { result.now ≡ symbol_at (whole sig.now form.now) number }
 {
     let number = number as usize;
     let own = sig.symbols.len();
@@ -56,7 +55,7 @@ pub fn functions(alloc: Global, sig: &Sig, form: &SkolemForm) -> Result<Seq<Seq<
     requires sig { IsSig sig.now }
     requires form { IsForm sig.now form.now }
     ensures len { IfOk result (λ lists. length lists ≡ sig.now.sorts) }
-    ensures each { IfOk result (λ lists. (t : ℕ) → t < sig.now.sorts → slice_index_or lists t [] ≡ function_numbers (extended sig.now form.now.skolems) t) }
+    ensures each { IfOk result (λ lists. (t : ℕ) → t < sig.now.sorts → slice_index_or lists t [] ≡ function_numbers (whole sig.now form.now) t) }
 {
     let mut lists = empty_lists(alloc, sig.sorts)?;
     let count = (sig.symbols.len() + form.skolems.len()) as u32;

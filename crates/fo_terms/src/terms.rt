@@ -3,6 +3,10 @@ ghost use Rattle.std.specs.Prelude.{◌≡◌, IfOk};
 use fo_core::Seq;
 use std::alloc::{AllocError, Global};
 
+/// How many ground terms a sort has at most in a universe. A form that weighs at most
+/// [`fo_core::MOST_WEIGHT`] has no more, since the triples of 159 terms weigh more than that.
+pub const MOST_TERMS: u64 = 158;
+
 /// A ground term: a function symbol, the copy in which it is read, and the places of its arguments
 /// in a universe.
 ///

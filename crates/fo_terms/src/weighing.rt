@@ -1,6 +1,7 @@
 ghost use Rattle.std.specs.Prelude.{◌≡◌, ℕ, ◌≤◌, List, [], length, map, slice_index};
 ghost use Rattle.std.specs.List.{All};
 ghost use Rattle.fo_core.specs.Sorted.{HasSorts, IsSig};
+ghost use Rattle.fo_core.specs.declared.query.TheConstants.{MOST_WEIGHT};
 ghost use Rattle.fo_core.specs.Weights.{added, power, nodes as nodes_of, claim_nodes as claim_nodes_of, skolem_nodes as skolem_nodes_of};
 ghost use Rattle.fo_norm.specs.Forms.{IsForm};
 ghost use Rattle.fo_terms.specs.FormWeight.{AreFew, form_weight};
@@ -130,7 +131,7 @@ pub fn weight(sig: &Sig, form: &SkolemForm, counts: &[u64]) -> u64
     requires counts { length counts.now ≡ sig.now.sorts }
     ensures weight { result ≡ form_weight sig.now form.now counts.now }
     ensures uncut { (U : List ℕ) → counts.now ≡ map cut U → result ≡ form_weight sig.now form.now U }
-    ensures light { (U : List ℕ) → counts.now ≡ map cut U → result ≤ 4000000 → AreFew U }
+    ensures light { (U : List ℕ) → counts.now ≡ map cut U → result ≤ MOST_WEIGHT → AreFew U }
 {
     claim_nodes(form.claims.as_slice(), counts)
         .saturating_add(skolem_nodes(form.skolems.as_slice(), counts))

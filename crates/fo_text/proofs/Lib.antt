@@ -7,3 +7,4 @@ pub mod LineLists
 pub mod Cuts
 pub mod Whole
 pub mod Places
+pub mod Stopping

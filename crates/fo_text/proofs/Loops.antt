@@ -1,10 +1,10 @@
 -- Reading one thing after the other, as loops do.
-use Rattle.std.proofs.Common.{◌≡◌, ◌==◌, if◌then◌else◌, ℕ, suc, ◌-◌, ◌+◌, ◌*◌, ◌≤◌, ◌<◌, Bool, true, false, cond, eqb, List, [], ◌∷◌, ◌++◌, length, get_or, drop, Ok, Err, refl, sym, ap, ◌∙◌, append_assoc, arith}
-use Rattle.std.proofs.lemmas.Bool.{eq-eqb, ne_eqb}
+use Rattle.std.proofs.Common.{◌≡◌, ◌==◌, if◌then◌else◌, ℕ, suc, ◌-◌, ◌+◌, ◌*◌, ◌≤◌, ◌<◌, Bool, true, false, cond, eqb, leb, ◌&&◌, ◌||◌, List, [], ◌∷◌, ◌++◌, length, get_or, drop, Ok, Err, refl, sym, ap, ◌∙◌, append_assoc, arith}
+use Rattle.std.proofs.lemmas.Bool.{eq-eqb, ne_eqb, le-leb, lt-leb}
 use Rattle.std.proofs.lemmas.List.{at_drop_more, length-drop, drop_all, append-nil, nil_from_length}
 use Rattle.fo_text.specs.declared.halt.Halt.{Halt}
 use Rattle.fo_text.specs.declared.halt.Halt.TheVariants.{Memory, Fault}
-use Rattle.fo_text.specs.Reading.{Read, ◌>>=◌, Fails, literal_at, digits_at, goes_on, number_at, begins_number, values_at, table_at, tables_at, copy_at, copies_at, size_at, sizes_at}
+use Rattle.fo_text.specs.Reading.{Read, ◌>>=◌, Fails, literal_at, reaches, digits_at, goes_on, number_at, begins_number, values_at, table_at, tables_at, copy_at, copies_at, size_at, sizes_at}
 use Rattle.fo_text.specs.declared.lines.Line.{Line}
 
 -- ---- a literal text
@@ -34,36 +34,62 @@ pub literal_end : (text bytes : List ℕ) (i : ℕ) → length text ≤ i → li
 unfolding literal_at
 literal_end text bytes i h = ap (λ t. literal_at t (drop i bytes)) (drop_all i text h)
 
+-- ---- numbers that begin with the digits of one
+
+module _ (least most low high n i : ℕ) where
+  abbrev farther : Bool
+  farther = reaches (n - (i + 1)) least most (10 * low) (10 * high + 9)
+
+  reach_step : i < n → reaches (n - i) least most low high ≡ (leb low most && (leb least high || farther))
+  unfolding reaches
+  reach_step h = let e : n - i ≡ suc (n - (i + 1)) = omega arith in rw e refl
+
+  pub reach_past : i < n → most < low → reaches (n - i) least most low high ≡ false
+  reach_past h past = reach_step h ∙ ap (λ b. b && (leb least high || farther)) (lt-leb low most past)
+
+  pub reach_there : i < n → low ≤ most → least ≤ high → reaches (n - i) least most low high ≡ true
+  reach_there h le there = reach_step h ∙ ap (λ b. b && (leb least high || farther)) (le-leb low most le) ∙ ap (λ b. b || farther) (le-leb least high there)
+
+  pub reach_on : i < n → low ≤ most → high < least → reaches (n - i) least most low high ≡ farther
+  reach_on h le below = reach_step h ∙ ap (λ b. b && (leb least high || farther)) (le-leb low most le) ∙ ap (λ b. b || farther) (lt-leb least high below)
+
+  pub reach_none : n ≤ i → reaches (n - i) least most low high ≡ false
+  unfolding reaches
+  reach_none h = let e : n - i ≡ 0 = omega arith in rw e refl
+
 -- ---- the digits of a number
 
-module _ (most ending n : ℕ) (bytes : List ℕ) (i : ℕ) where
+module _ (least most ending n : ℕ) (bytes : List ℕ) (i : ℕ) where
   abbrev here : ℕ
   here = get_or bytes i 0
 
   abbrev rest : List ℕ
   rest = drop (i + 1) bytes
 
+  abbrev ended : Bool
+  ended = eqb here ending && leb least n
+
   abbrev onward : Bool → Read ℕ
-  onward c = cond c (digits_at most ending (10 * n + (here - 48)) rest) (Err (length rest + 1))
+  onward c = cond c (digits_at least most ending (10 * n + (here - 48)) rest) (Err (length rest + 1))
 
-  at_digit : i < length bytes → digits_at most ending n (drop i bytes) ≡ cond (eqb here ending) (Ok (n, rest)) (onward (goes_on most n here))
+  at_digit : i < length bytes → digits_at least most ending n (drop i bytes) ≡ cond ended (Ok (n, rest)) (onward (goes_on least most n here))
   unfolding digits_at
-  at_digit h = at_drop_more (digits_at most ending n) bytes i 0 h
+  at_digit h = at_drop_more (digits_at least most ending n) bytes i 0 h
 
-  pub digits_ended : i < length bytes → here ≡ ending → digits_at most ending n (drop i bytes) ≡ Ok (n, rest)
-  digits_ended h e = at_digit h ∙ ap (λ c. cond c (Ok (n, rest)) (onward (goes_on most n here))) (eq-eqb here ending e)
+  pub digits_ended : i < length bytes → ended ≡ true → digits_at least most ending n (drop i bytes) ≡ Ok (n, rest)
+  digits_ended h e = at_digit h ∙ ap (λ c. cond c (Ok (n, rest)) (onward (goes_on least most n here))) e
 
-  pub digits_step : i < length bytes → ¬ (here ≡ ending) → goes_on most n here ≡ true → digits_at most ending n (drop i bytes) ≡ digits_at most ending (10 * n + (here - 48)) rest
-  digits_step h e g = at_digit h ∙ ap (λ c. cond c (Ok (n, rest)) (onward (goes_on most n here))) (ne_eqb here ending e) ∙ ap onward g
+  pub digits_step : i < length bytes → ended ≡ false → goes_on least most n here ≡ true → digits_at least most ending n (drop i bytes) ≡ digits_at least most ending (10 * n + (here - 48)) rest
+  digits_step h e g = at_digit h ∙ ap (λ c. cond c (Ok (n, rest)) (onward (goes_on least most n here))) e ∙ ap onward g
 
-  pub digits_refused : i < length bytes → ¬ (here ≡ ending) → goes_on most n here ≡ false → digits_at most ending n (drop i bytes) ≡ Err (length bytes - i)
+  pub digits_refused : i < length bytes → ended ≡ false → goes_on least most n here ≡ false → digits_at least most ending n (drop i bytes) ≡ Err (length bytes - i)
   digits_refused h e g =
       let len : length (drop (i + 1) bytes) + 1 ≡ length bytes - i = omega (arith, length-drop (i + 1) bytes) in
-      at_digit h ∙ ap (λ c. cond c (Ok (n, rest)) (onward (goes_on most n here))) (ne_eqb here ending e) ∙ ap onward g ∙ ap (λ (m : ℕ). Err m) len
+      at_digit h ∙ ap (λ c. cond c (Ok (n, rest)) (onward (goes_on least most n here))) e ∙ ap onward g ∙ ap (λ (m : ℕ). Err m) len
 
-  pub digits_short : length bytes ≤ i → digits_at most ending n (drop i bytes) ≡ Err 0
+  pub digits_short : length bytes ≤ i → digits_at least most ending n (drop i bytes) ≡ Err 0
   unfolding digits_at
-  digits_short h = ap (digits_at most ending n) (drop_all i bytes h)
+  digits_short h = ap (digits_at least most ending n) (drop_all i bytes h)
 
 -- ---- its first digit
 
@@ -71,17 +97,17 @@ module _ (least most ending : ℕ) (bytes : List ℕ) where
   abbrev first : ℕ
   first = get_or bytes 0 0
 
-  at_first : 0 < length bytes → number_at least most ending bytes ≡ cond (begins_number least most first) (digits_at most ending (first - 48) (drop 1 bytes)) (Err (length (drop 1 bytes) + 1))
+  at_first : 0 < length bytes → number_at least most ending bytes ≡ cond (begins_number least most first) (digits_at least most ending (first - 48) (drop 1 bytes)) (Err (length (drop 1 bytes) + 1))
   unfolding number_at
   at_first h = at_drop_more (number_at least most ending) bytes 0 0 h
 
-  pub number_begun : 0 < length bytes → begins_number least most first ≡ true → number_at least most ending bytes ≡ digits_at most ending (first - 48) (drop 1 bytes)
-  number_begun h b = at_first h ∙ ap (λ c. cond c (digits_at most ending (first - 48) (drop 1 bytes)) (Err (length (drop 1 bytes) + 1))) b
+  pub number_begun : 0 < length bytes → begins_number least most first ≡ true → number_at least most ending bytes ≡ digits_at least most ending (first - 48) (drop 1 bytes)
+  number_begun h b = at_first h ∙ ap (λ c. cond c (digits_at least most ending (first - 48) (drop 1 bytes)) (Err (length (drop 1 bytes) + 1))) b
 
   pub number_refused : 0 < length bytes → begins_number least most first ≡ false → number_at least most ending bytes ≡ Err (length bytes)
   number_refused h b =
       let len : length (drop 1 bytes) + 1 ≡ length bytes = omega (arith, length-drop 1 bytes) in
-      at_first h ∙ ap (λ c. cond c (digits_at most ending (first - 48) (drop 1 bytes)) (Err (length (drop 1 bytes) + 1))) b ∙ ap (λ (n : ℕ). Err n) len
+      at_first h ∙ ap (λ c. cond c (digits_at least most ending (first - 48) (drop 1 bytes)) (Err (length (drop 1 bytes) + 1))) b ∙ ap (λ (n : ℕ). Err n) len
 
   pub number_none : length bytes ≡ 0 → number_at least most ending bytes ≡ Err 0
   unfolding number_at

@@ -30,7 +30,7 @@ values_text (v ∷ []) = ended 10 v
 values_text (v ∷ w ∷ vs) = ended 32 v ++ values_text (w ∷ vs)
 
 pub bounds_of : (most ending : ℕ) → most < 2 ^ 64 → ending < 48 → Bounds 0 most ending
-bounds_of most ending small low = record { low = omega arith; range = omega arith; small = small; ends = low }
+bounds_of most ending small low = record { range = omega arith; small = small; ends = low }
 
 one_value : (most : ℕ) → most < 2 ^ 64 → Exact (AreValues 1 most) values_text (values_at 1 most)
 unfolding values_at
@@ -177,7 +177,7 @@ abbrev pub IsWord32 : ℕ → Type 0
 IsWord32 n = InRange 1 (2 ^ 32 - 1) n
 
 exact_positive : Exact IsWord32 (ended 10) (number_at 1 (2 ^ 32 - 1) 10)
-exact_positive = exact_number 1 (2 ^ 32 - 1) 10 (record { low = omega arith; range = omega arith; small = omega arith; ends = omega arith })
+exact_positive = exact_number 1 (2 ^ 32 - 1) 10 (record { range = omega arith; small = omega arith; ends = omega arith })
 
 size_words : (name : List ℕ) (n : ℕ) → codes "sort " ++ name ++ after_space n ++ 10 ∷ [] ≡ codes "sort " ++ (name ++ (codes " " ++ ended 10 n))
 size_words name n = ap (λ (l : List ℕ). codes "sort " ++ l) (append_assoc name (after_space n) (10 ∷ []))

@@ -1,5 +1,5 @@
 -- Reading the text of a world from left to right, with the first byte at which it can't go on.
-use Rattle.std.specs.Prelude.{◌≡◌, ℕ, zero, suc, ◌+◌, ◌-◌, ◌*◌, ◌^◌, min, Bool, true, false, cond, not, ◌&&◌, nat_le, ◌==◌, if◌then◌else◌, List, [], ◌∷◌, length, map, codes, decimal, Result, Ok, Err, ⊤}
+use Rattle.std.specs.Prelude.{◌≡◌, ℕ, zero, suc, ◌+◌, ◌-◌, ◌*◌, ◌^◌, min, Bool, true, false, cond, not, ◌&&◌, ◌||◌, nat_le, ◌==◌, if◌then◌else◌, List, [], ◌∷◌, length, map, codes, decimal, Result, Ok, Err, ⊤}
 use Rattle.fo_core.specs.declared.signature.Symbol.{Symbol}
 use Rattle.fo_core.specs.declared.signature.Sig.{Sig}
 use Rattle.fo_core.specs.declared.names.Names.{Names}
@@ -37,25 +37,36 @@ literal_at (t ∷ text) (b ∷ bytes) = if b == t then literal_at text bytes els
 abbrev pub is_digit : ℕ → Bool
 is_digit b = nat_le 48 b && nat_le b 57
 
--- the byte begins a number from `least` to `most`, where `least` is 0 or 1
-abbrev pub begins_number : ℕ → ℕ → ℕ → Bool
-begins_number least most b = is_digit b && nat_le least (b - 48) && nat_le (b - 48) most
+-- Of the numbers from `low` to `high`, or of those that have the same digits in front and up to k - 1
+-- more behind them, one is from `least` to `most`.
+unfoldable pub reaches : ℕ → ℕ → ℕ → ℕ → ℕ → Bool
+reaches zero least most low high = false
+reaches (suc k) least most low high = nat_le low most && (nat_le least high || reaches k least most (10 * low) (10 * high + 9))
 
--- the byte is a digit by which the number n goes on to one up to `most`
-abbrev pub goes_on : ℕ → ℕ → ℕ → Bool
-goes_on most n b = not (n == 0) && is_digit b && nat_le (10 * n + (b - 48)) most
+-- the digits of n begin those of a number from `least` to `most`, which has 20 digits at most; 0 goes
+-- on to no other number
+abbrev pub begins_some : ℕ → ℕ → ℕ → Bool
+begins_some least most n = reaches (if n == 0 then 1 else 20) least most n n
+
+-- the byte is the first digit of a number from `least` to `most`
+abbrev pub begins_number : ℕ → ℕ → ℕ → Bool
+begins_number least most b = is_digit b && begins_some least most (b - 48)
+
+-- the byte is a digit by which the number n goes on to one from `least` to `most`
+abbrev pub goes_on : ℕ → ℕ → ℕ → ℕ → Bool
+goes_on least most n b = not (n == 0) && is_digit b && begins_some least most (10 * n + (b - 48))
 
 -- the number whose first digits are those of n, up to the byte that ends it
-unfoldable pub digits_at : ℕ → ℕ → ℕ → List ℕ → Read ℕ
-digits_at most ending n [] = Err 0
-digits_at most ending n (b ∷ bytes) =
-    if b == ending then Ok (n, bytes)
-    else (if goes_on most n b then digits_at most ending (10 * n + (b - 48)) bytes else Err (length bytes + 1))
+unfoldable pub digits_at : ℕ → ℕ → ℕ → ℕ → List ℕ → Read ℕ
+digits_at least most ending n [] = Err 0
+digits_at least most ending n (b ∷ bytes) =
+    if b == ending && nat_le least n then Ok (n, bytes)
+    else (if goes_on least most n b then digits_at least most ending (10 * n + (b - 48)) bytes else Err (length bytes + 1))
 
 -- a number from `least` to `most`, and the byte that ends it
 unfoldable pub number_at : ℕ → ℕ → ℕ → List ℕ → Read ℕ
 number_at least most ending [] = Err 0
-number_at least most ending (b ∷ bytes) = if begins_number least most b then digits_at most ending (b - 48) bytes else Err (length bytes + 1)
+number_at least most ending (b ∷ bytes) = if begins_number least most b then digits_at least most ending (b - 48) bytes else Err (length bytes + 1)
 
 -- so many values up to `most`, with spaces between them, and the end of the line
 unfoldable pub values_at : ℕ → ℕ → List ℕ → Read (List ℕ)

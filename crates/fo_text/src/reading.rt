@@ -13,7 +13,8 @@ use std::alloc::Global;
 
 /// What stands behind a value that so many follow in its line: a space, or the line's end.
 fn ending(following: u64) -> u8
-    ensures { result ≡ (if following == 0 then 10 else 32) }
+    ensures is { result ≡ (if following == 0 then 10 else 32) }
+    ensures below { result < 48 }
 {
     if following == 0 { b'\n' } else { b' ' }
 }

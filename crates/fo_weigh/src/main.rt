@@ -6,17 +6,16 @@
 ghost use Rattle.std.specs.Prelude.{◌≤◌, IfOk};
 ghost use Rattle.fo_core.specs.Sorted.{IsSig};
 ghost use Rattle.fo_core.specs.SortGraph.{FunctionEdge, Rises};
-ghost use Rattle.fo_core.specs.Skolems.{extended};
-ghost use Rattle.fo_norm.specs.Forms.{IsForm};
+ghost use Rattle.fo_norm.specs.Forms.{whole, IsForm};
 ghost use Rattle.fo_core.specs.TermCounts.{term_counts};
 ghost use Rattle.fo_terms.specs.FormWeight.{form_weight, AreFew};
 
 mod forms;
 
-use fo_core::{Order, Query, Seq, Sig};
-use fo_ground::ground;
+use fo_core::{MOST_WEIGHT, Order, Query, Seq, Sig};
+use fo_ground::{ground, weight};
 use fo_norm::{SkolemForm, normal};
-use fo_terms::{counts, rises, universe, weight};
+use fo_terms::{counts, rises, universe_from};
 use std::alloc::Global;
 use std::io::{BufRead, BufReader};
 
@@ -36,18 +35,6 @@ fn order(alloc: Global) -> anyhow::Result<Order> {
     })
 }
 
-/// The weight of a form.
-fn weight_of(alloc: Global, sig: &Sig, form: &SkolemForm, order: &Order) -> anyhow::Result<u64>
-    requires sig { IsSig sig.now }
-    requires form { IsForm sig.now form.now }
-    requires rises { Rises (FunctionEdge (extended sig.now form.now.skolems)) sig.now.sorts order.now.numbers }
-    ensures few { IfOk result (λ w. w ≤ 4000000 → AreFew (term_counts (extended sig.now form.now.skolems) form.now.copies)) }
-    ensures light { IfOk result (λ w. w ≤ 4000000 → form_weight sig.now form.now (term_counts (extended sig.now form.now.skolems) form.now.copies) ≤ 4000000) }
-{
-    let counts = counts(alloc, sig, form, order)?;
-    Ok(weight(sig, form, counts.as_slice()))
-}
-
 /// How large the clauses of a form are.
 fn measured(alloc: Global, sig: &Sig, form: &SkolemForm) -> anyhow::Result<Size>
     requires sig { IsSig sig.now }
@@ -55,9 +42,10 @@ fn measured(alloc: Global, sig: &Sig, form: &SkolemForm) -> anyhow::Result<Size>
 {
     let order = order(alloc)?;
     anyhow::ensure!(rises(sig, form, &order), "no order");
-    let weight = weight_of(alloc, sig, form, &order)?;
-    anyhow::ensure!(weight <= 4_000_000, "too heavy");
-    let universe = universe(alloc, sig, form, &order)?;
+    let counts = counts(alloc, sig, form, &order)?;
+    let weight = weight(sig, form, counts.as_slice());
+    anyhow::ensure!(weight <= MOST_WEIGHT, "too heavy");
+    let universe = universe_from(alloc, sig, form, &order, counts)?;
     let grounded = ground(alloc, sig, form, &universe)?;
     Ok(Size {
         weight,

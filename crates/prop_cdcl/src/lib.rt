@@ -5,7 +5,6 @@
 #![tactic(auto)]
 
 mod analysis;
-mod lists;
 mod order;
 mod search;
 mod solver;

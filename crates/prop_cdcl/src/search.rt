@@ -1,15 +1,15 @@
 //! The search: propagation, decisions, restarts, and what a learnt clause does.
 use crate::analysis::{Analysis, watched};
-use crate::lists::Lists;
 use crate::order::Order;
 use crate::trail::{Reason, Trail};
+use prop_check::WatchLists;
 use prop_core::{Clause, Lit};
 use std::alloc::{AllocError, Global};
 
 /// Conflicts before the first restart, and how many more before each later one.
 const RESTART: u64 = 100;
 
-/// What the search came to.
+/// Where the search stopped.
 #[derive(Drop)]
 pub enum Event {
     /// Each variable has a value, and no conflict was seen.
@@ -20,7 +20,7 @@ pub enum Event {
     Lost,
 }
 
-/// What a look at a clause, of which one watched literal is false, came to.
+/// What a look at a clause found, of which one watched literal is false.
 enum Look {
     /// It is watched as before.
     Stay,
@@ -33,7 +33,7 @@ enum Look {
 #[derive(Drop)]
 pub struct Search {
     trail: Trail,
-    lists: Lists,
+    lists: WatchLists,
     order: Order,
     analysis: Analysis,
     vars: u32,
@@ -62,7 +62,7 @@ impl Search {
     pub fn new(alloc: Global, vars: u32, clauses: &[Clause]) -> Result<Search, AllocError> {
         let mut search = Search {
             trail: Trail::new(alloc, vars as usize)?,
-            lists: Lists::new(alloc, vars, clauses.len())?,
+            lists: WatchLists::new(alloc, vars)?,
             order: Order::new(alloc, vars as usize)?,
             analysis: Analysis::new(alloc, vars as usize)?,
             vars,
@@ -70,6 +70,7 @@ impl Search {
             conflicts: 0,
             limit: RESTART,
         };
+        search.lists.reserve(clauses.len())?;
         for (at, clause) in clauses.iter().enumerate() {
             search.begin(clause.as_slice(), at);
         }
@@ -79,9 +80,9 @@ impl Search {
     /// Takes one of the given clauses.
     fn begin(&mut self, clause: &[Lit], at: usize) {
         match two_of(clause) {
-            (Some(first), Some(second)) => self.lists.attach(Some((first, second))),
+            (Some(first), Some(second)) => self.lists.attach(Some(first), Some(second)),
             (Some(only), None) => {
-                self.lists.attach(None);
+                self.lists.attach(None, None);
                 if self.trail.is_false(only) {
                     self.refuted = true;
                 } else if !self.trail.is_true(only) {
@@ -89,7 +90,7 @@ impl Search {
                 }
             }
             _ => {
-                self.lists.attach(None);
+                self.lists.attach(None, None);
                 self.refuted = true;
             }
         }
@@ -97,7 +98,7 @@ impl Search {
 
     /// Makes room for one more clause.
     pub fn reserve(&mut self) -> Result<(), AllocError> {
-        self.lists.reserve()
+        self.lists.reserve(1)
     }
 
     /// Goes on until there is a conflict, or each variable has a value.
@@ -221,11 +222,11 @@ impl Search {
             Some(lit) => {
                 let level = self.trail.level_of(lit);
                 self.undo_to(level);
-                self.lists.attach(Some((asserted, lit)));
+                self.lists.attach(Some(asserted), Some(lit));
             }
             None => {
                 self.undo_to(0);
-                self.lists.attach(None);
+                self.lists.attach(None, None);
             }
         }
         if self.trail.is_open(asserted.var as usize) {

@@ -17,9 +17,11 @@ fn no_variables_and_no_clauses_are_met(rt: HostRuntime) -> Result<(), Fail> {
         vars: 0,
         clauses: Seq::new(alloc),
     };
-    match solve(alloc, &cnf)? {
-        Answer::Sat(values) => assert!(rt; values.is_empty()),
-        Answer::Unsat(_) => assert!(rt; false),
+    for answer in [solve(alloc, &cnf)?, prop_plain::solve(alloc, &cnf)?] {
+        match answer {
+            Answer::Sat(values) => assert!(rt; values.is_empty()),
+            Answer::Unsat(_) => assert!(rt; false),
+        }
     }
     Ok(())
 }
@@ -31,11 +33,13 @@ fn an_empty_clause_is_refuted_by_itself(rt: HostRuntime) -> Result<(), Fail> {
     clauses.push(Clause::new(alloc))?;
     let cnf = Cnf { vars: 0, clauses };
     assert!(rt; cnf.is_well_formed());
-    match solve(alloc, &cnf)? {
-        Answer::Sat(_) => assert!(rt; false),
-        Answer::Unsat(refutation) => {
-            let last = refutation.clauses.as_slice().last().ok_or("no clause")?;
-            assert!(rt; last.is_empty());
+    for answer in [solve(alloc, &cnf)?, prop_plain::solve(alloc, &cnf)?] {
+        match answer {
+            Answer::Sat(_) => assert!(rt; false),
+            Answer::Unsat(refutation) => {
+                let last = refutation.clauses.as_slice().last().ok_or("no clause")?;
+                assert!(rt; last.is_empty());
+            }
         }
     }
     Ok(())
@@ -44,7 +48,7 @@ fn an_empty_clause_is_refuted_by_itself(rt: HostRuntime) -> Result<(), Fail> {
 /// Pairs of variables that have nothing to do with the two last ones, which can't be met: a search
 /// in order of variables would meet 3^30 values of the pairs first.
 #[test]
-fn a_contradiction_behind_thirty_pairs_is_found(rt: HostRuntime) -> Result<(), Fail> {
+fn a_contradiction_after_thirty_pairs_is_found(rt: HostRuntime) -> Result<(), Fail> {
     let alloc = rt.alloc();
     let mut clauses = Seq::new(alloc);
     for pair in 0..30u32 {

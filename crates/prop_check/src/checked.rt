@@ -1,4 +1,4 @@
-ghost use Rattle.std.specs.Prelude.{◌≡◌, ℕ, ◌+◌, ◌-◌, ◌<◌, ◌≤◌, ◌↔◌, [], ◌∷◌, ◌++◌, length, Bool, List, IsTrue, IsFalse, IfOk, OnOk, Contains, drop, replicate};
+ghost use Rattle.std.specs.Prelude.{◌≡◌, ℕ, ◌+◌, ◌-◌, ◌<◌, ◌≤◌, ◌↔◌, [], ◌∷◌, ◌++◌, length, Bool, List, IsTrue, IsFalse, IfOk, OnOk, OnErr, Contains, drop, replicate};
 ghost use Rattle.prop_core.specs.Formula.{IsWithin, AreWithin};
 ghost use Rattle.prop_core.specs.Answers.{HaveNoValues};
 ghost use Rattle.prop_core.specs.Propagation.{Follows, IsDerivation};
@@ -59,9 +59,11 @@ impl Checked {
         })
     }
 
-    /// Makes room for `n` more clauses. Where memory is wanting, what is kept stays the same.
+    /// Makes room for `n` more clauses. After an error, which is out of memory, nothing has
+    /// changed.
     pub fn reserve(&mut self, n: usize) -> Result<(), AllocError>
         ensures ok { OnOk result (n ≤ self.new.spare) }
+        ensures err { OnErr result (self.new ≡ self.old) }
         ensures more { self.old.spare ≤ self.new.spare }
         ensures same { self.new ≡ record self.old { spare = self.new.spare } }
     {
@@ -145,7 +147,7 @@ fn without_values(alloc: Global, vars: u32) -> Result<Vec<Option<bool>>, AllocEr
     Ok(values)
 }
 
-/// The items behind the first `n`.
+/// The items after the first `n`.
 fn without_first(mut clauses: Vec<Clause>, n: usize) -> Vec<Clause>
     requires { n ≤ length clauses.items }
     ensures { result.items ≡ drop n clauses.items }

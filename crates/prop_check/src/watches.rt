@@ -10,31 +10,17 @@ ghost use Rattle.prop_check.specs.Assignment.{Grows, OnlyForced, HasFalse};
 ghost use Rattle.prop_check.specs.Outcomes.{FoundIs};
 
 use crate::assignment::{Status, look_at};
+use crate::lists::WatchLists;
 use prop_core::{Clause, Lit};
 use std::alloc::{AllocError, Global};
 
-/// One of a clause's two places in the lists.
-#[derive(Clone, Copy)]
-struct Node {
-    /// The literal in whose list it stands.
-    lit: Lit,
-    /// The next one in that list.
-    next: usize,
-}
-
-/// For each literal the list of the clauses that watch it. The clause `k` has the nodes `2 * k`
-/// and `2 * k + 1`.
+/// The lists of the clauses that watch a literal, and the literals whose lists are to be visited.
 #[derive(Drop)]
 pub struct Watches {
-    /// The first node of each list, two lists a variable.
-    heads: Vec<usize>,
-    nodes: Vec<Node>,
+    lists: WatchLists,
     /// The literals that became true and whose opposite lists are still to be visited.
     queue: Vec<Lit>,
 }
-
-/// No node.
-const NONE: usize = usize::MAX;
 
 /// What a look at one clause found.
 pub enum Found {
@@ -44,12 +30,6 @@ pub enum Found {
     Forced(Lit),
     /// Neither.
     Nothing,
-}
-
-/// The place of a literal's list.
-fn list_of(lit: Lit) -> usize {
-    let at = lit.var as usize * 2;
-    if lit.positive { at + 1 } else { at }
 }
 
 /// Whether the literal is true, where `value` is true, or false, where it isn't.
@@ -92,18 +72,15 @@ fn take_unit(clauses: &[Clause], at: usize, values: &mut [Option<bool>]) -> Foun
 impl Watches {
     /// No lists yet, with room for those of `vars` variables.
     pub fn new(alloc: Global, vars: u32) -> Result<Watches, AllocError> {
-        let lists = vars as usize * 2;
         Ok(Watches {
-            heads: vec![in alloc; NONE; lists]?,
-            nodes: Vec::new(alloc),
+            lists: WatchLists::new(alloc, vars)?,
             queue: Vec::with_capacity(alloc, vars as usize)?,
         })
     }
 
     /// Makes room for `n` more clauses.
     pub fn reserve(&mut self, n: usize) -> Result<(), AllocError> {
-        self.nodes.reserve(n.saturating_mul(2))?;
-        Ok(())
+        self.lists.reserve(n)
     }
 
     /// Begins with nothing to visit.
@@ -118,48 +95,12 @@ impl Watches {
         }
     }
 
-    /// Puts a node in front of a literal's list.
-    fn link(&mut self, node: usize, lit: Lit) {
-        let list = list_of(lit);
-        if list < self.heads.len() && node < self.nodes.len() {
-            self.nodes[node] = Node {
-                lit,
-                next: self.heads[list],
-            };
-            self.heads[list] = node;
-        }
-    }
-
     /// Puts the next clause into the lists of two of its literals, where there is room: of such
     /// as aren't false, if it has them.
     pub fn watch(&mut self, clause: &[Lit], values: &[Option<bool>]) {
-        let node = self.nodes.len();
-        if self.nodes.capacity() - node < 2 {
-            return;
-        }
-        let unused = Node {
-            lit: Lit::default(),
-            next: NONE,
-        };
-        self.nodes.push_reserved(unused);
-        self.nodes.push_reserved(unused);
         let first = find_open(clause, values, None);
         let second = find_open(clause, values, first);
-        if let Some(lit) = first {
-            self.link(node, lit);
-        }
-        if let Some(lit) = second {
-            self.link(node + 1, lit);
-        }
-    }
-
-    /// The literal of the other node of a node's clause.
-    fn twin(&self, node: usize) -> Lit {
-        let twin = if node % 2 == 0 { node | 1 } else { node - 1 };
-        match self.nodes.get(twin) {
-            Some(other) => other.lit,
-            None => Lit::default(),
-        }
+        self.lists.attach(first, second);
     }
 
     /// Looks at the clause `at` for a last literal, which it makes true.
@@ -190,25 +131,13 @@ impl Watches {
         falsified: Lit,
         values: &[Option<bool>],
     ) -> Option<Lit> {
-        let other = self.twin(node);
+        let other = self.lists.twin(node);
         if has_value(values, other, true) {
             return Some(falsified);
         }
         match clauses.get(node / 2) {
             Some(clause) => find_open(clause.as_slice(), values, Some(other)),
             None => Some(falsified),
-        }
-    }
-
-    /// Puts the nodes from `node` on back into the list of `lit`.
-    fn link_rest(&mut self, mut node: usize, lit: Lit) {
-        for _ in 0..self.nodes.len() {
-            if node >= self.nodes.len() {
-                return;
-            }
-            let next = self.nodes[node].next;
-            self.link(node, lit);
-            node = next;
         }
     }
 
@@ -219,23 +148,17 @@ impl Watches {
         ensures forced { OnlyForced clauses.now values.old values.new }
         ensures conflict { IsTrue result → HasFalse clauses.now values.new }
     {
-        let list = list_of(falsified);
-        if list >= self.heads.len() {
-            return false;
-        }
-        let mut node = self.heads[list];
-        self.heads[list] = NONE;
-        for _ in 0..self.nodes.len() {
-            if node >= self.nodes.len() {
-                break;
-            }
-            let next = self.nodes[node].next;
+        let mut node = self.lists.take(falsified);
+        for _ in 0..self.lists.len() {
+            let Some(next) = self.lists.next(node) else {
+                break
+            };
             match self.replacement(clauses, node, falsified, values) {
-                Some(lit) => self.link(node, lit),
+                Some(lit) => self.lists.link(node, lit),
                 None => {
-                    self.link(node, falsified);
+                    self.lists.link(node, falsified);
                     if self.look(clauses, node / 2, values) {
-                        self.link_rest(next, falsified);
+                        self.lists.link_rest(next, falsified);
                         return true;
                     }
                 }

@@ -48,11 +48,11 @@ derivation_sound clauses (c ∷ rest) v meets h =
     derivation_sound (clauses ++ c ∷ []) rest v (All-push (MeetsClause v) clauses c meets meets_c) h.1 in
     rw append_assoc at all
 
-pub refutation_sound : (clauses steps : List (List Lit)) (v : ℕ → Bool) → IsRefutation clauses steps → MeetsAll v clauses → ⊥
-refutation_sound clauses steps v h meets =
-    let all : MeetsAll v (clauses ++ steps) = derivation_sound clauses steps v meets h.0 in
+pub refutation_sound : (vars : ℕ) (clauses steps : List (List Lit)) → IsRefutation vars clauses steps → HaveNoValues clauses
+refutation_sound vars clauses steps h v meets =
+    let all : MeetsAll v (clauses ++ steps) = derivation_sound clauses steps v meets h.derived in
     let in_steps : Contains steps [] =
-    let P : List (List Lit) → Type 0 = λ ss. Contains ss [] in subst P (sym h.1.1) (Contains-push h.1.0 []) in
+    let P : List (List Lit) → Type 0 = λ ss. Contains ss [] in subst P (sym h.ends.1) (Contains-push h.ends.0 []) in
     no_empty v (All-contains (MeetsClause v) (clauses ++ steps) [] all (Contains-append_right clauses steps [] in_steps))
   where
     no_empty : (v : ℕ → Bool) → MeetsClause v [] → ⊥
@@ -66,4 +66,4 @@ steps_sound clauses steps v meets h =
 -- an answer says that there are no values exactly where there are none
 pub answer_exact : (vars : ℕ) (clauses : List (List Lit)) (a : Answer) → IsAnswer vars clauses a → (SaysUnsat a ↔ HaveNoValues clauses)
 answer_exact vars clauses (Sat values) h = (λ f. absurd f, λ none. none (value_of values) h.1)
-answer_exact vars clauses (Unsat r) h = (λ _ v meets. refutation_sound clauses r.clauses v h.1 meets, λ _. tt)
+answer_exact vars clauses (Unsat r) h = (λ _. refutation_sound vars clauses r.clauses h, λ _. tt)

@@ -1,7 +1,7 @@
 -- Unit propagation, and refutations by it.
-use Rattle.std.specs.Prelude.{◌≡◌, ◌⊎◌, Contains, List, [], ◌∷◌, ◌++◌, map}
+use Rattle.std.specs.Prelude.{◌≡◌, ◌⊎◌, ℕ, Contains, List, [], ◌∷◌, ◌++◌, map}
 use Rattle.prop_core.specs.declared.lit.Lit.{Lit}
-use Rattle.prop_core.specs.Formula.{negated}
+use Rattle.prop_core.specs.Formula.{negated, AreWithin}
 
 -- The literals that unit propagation makes true from those of `start`: these, and a clause's literal where each
 -- other literal of that clause is made false.
@@ -24,6 +24,9 @@ abbrev pub IsDerivation : List (List Lit) → List (List Lit) → Type 0
 IsDerivation clauses [] = Unit {0}
 IsDerivation clauses (c ∷ rest) = Follows clauses c × IsDerivation (clauses ++ c ∷ []) rest
 
--- such a list whose last clause is empty
-abbrev pub IsRefutation : List (List Lit) → List (List Lit) → Type 0
-IsRefutation clauses steps = IsDerivation clauses steps × ((before : List (List Lit)) × (steps ≡ before ++ [] ∷ []))
+-- steps over the variables below vars, each of which follows from the clauses and the steps before
+-- it, and the last of which is empty
+pub record IsRefutation (vars : ℕ) (clauses steps : List (List Lit)) : Type 0 where
+  pub within : AreWithin vars steps
+  pub derived : IsDerivation clauses steps
+  pub ends : (before : List (List Lit)) × (steps ≡ before ++ [] ∷ [])

@@ -5,8 +5,8 @@ use crate::cnf::copy_clauses;
 use fo_core::Seq;
 use std::alloc::{AllocError, Global};
 
-/// Clauses each of which follows by unit propagation from a formula's clauses and those before
-/// it, the last one being empty.
+/// Clauses over a formula's variables, each of which follows by unit propagation from the
+/// formula's clauses and those before it, the last one being empty.
 ///
 /// Goldberg and Novikov, "Verification of Proofs of Unsatisfiability for CNF Formulas", 2003.
 #[derive(Drop)]
@@ -15,7 +15,7 @@ pub struct Refutation {
     pub clauses: Seq<Clause>,
 }
 
-/// What a search for values that meet a formula came to.
+/// What a search for values that meet a formula found.
 #[derive(Drop)]
 pub enum Answer {
     /// One value for each variable, which meet each clause.

@@ -49,7 +49,7 @@ impl Clause {
         self.lits.as_slice()
     }
 
-    /// How many literals there are.
+    /// The number of literals.
     pub fn len(&self) -> usize
         ensures { result ≡ length self.now }
     {
@@ -63,7 +63,8 @@ impl Clause {
         self.lits.len() == 0
     }
 
-    /// Puts a literal behind the others. Where memory is wanting, nothing changes.
+    /// Puts a literal after the others. After an error, which is out of memory, nothing has
+    /// changed.
     pub fn push(&mut self, lit: Lit) -> Result<(), AllocError>
         ensures ok { OnOk result (self.new ≡ self.old ++ lit ∷ []) }
         ensures err { OnErr result (self.new ≡ self.old) }
@@ -91,8 +92,8 @@ impl Clause {
         true
     }
 
-    /// Whether a literal is true under these values, of which the variable's number tells the
-    /// place. Each variable has to have a value.
+    /// Whether a literal is true under these values, one for each variable in order. Each
+    /// variable has to have a value.
     pub fn is_met(&self, values: &[bool]) -> bool
         requires { IsWithin (length values.now) self.now }
         ensures { IsTrue result ↔ MeetsClause (value_of values.now) self.now }

@@ -8,7 +8,7 @@ use std::alloc::{AllocError, Global};
 /// A formula in conjunctive normal form: clauses over the variables below `vars`.
 ///
 /// Calls that take one ask that each variable in its clauses is below `vars`, which
-/// `is_well_formed` tells.
+/// `is_well_formed` decides.
 #[derive(Drop)]
 pub struct Cnf {
     /// How many variables there are.

@@ -2,6 +2,7 @@
 ghost use Rattle.std.specs.Prelude.{ℕ, Bool, List};
 ghost use Rattle.prop_core.specs.declared.lit.Lit.{Lit};
 ghost use Rattle.prop_core.specs.Formula.{MeetsClause, MeetsAll};
+ghost use Rattle.prop_core.specs.Answers.{HaveNoValues};
 ghost use Rattle.prop_core.specs.Propagation.{Follows, IsDerivation, IsRefutation};
 
 /// A clause that follows by unit propagation is met by all values that meet the clauses.
@@ -16,5 +17,5 @@ pub fn derivation_is_sound()
 
 /// Where there is a refutation, no values meet the clauses.
 pub fn refutation_is_sound()
-    ensures { (clauses steps : List (List Lit)) (v : ℕ → Bool) → IsRefutation clauses steps → MeetsAll v clauses → ⊥ }
+    ensures { (vars : ℕ) (cs steps : List (List Lit)) → IsRefutation vars cs steps → HaveNoValues cs }
 {}

@@ -1,7 +1,7 @@
 //! Reads formulas in the CNF format of DIMACS from standard input, and prints for each one whether
 //! some values meet it. A line that begins with `p` begins the next formula.
 //!
-//! A line that begins with `a` proposes a clause. Behind a formula with such lines the program
+//! A line that begins with `a` proposes a clause. After a formula with such lines the program
 //! prints how many of them follow by unit propagation from the clauses before them instead.
 //!
 //! "Satisfiability: Suggested Format", DIMACS Challenge, 1993.

@@ -3,7 +3,7 @@ use fo_core::Seq;
 use prop_core::{Clause, Cnf, Lit};
 use std::alloc::Global;
 
-/// A formula, and the clauses that are proposed behind it.
+/// A formula, and the clauses that are proposed after it.
 #[derive(Drop)]
 pub struct Formula {
     pub cnf: Cnf,
@@ -72,7 +72,7 @@ impl Formulas {
         Ok(())
     }
 
-    /// Takes a literal, or the 0 behind a clause.
+    /// Takes a literal, or the 0 after a clause.
     fn add(&mut self, alloc: Global, number: i32, is_proposed: bool) -> anyhow::Result<()> {
         match number.unsigned_abs().checked_sub(1) {
             Some(var) => {

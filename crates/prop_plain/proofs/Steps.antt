@@ -81,7 +81,7 @@ module _ (vars : ℕ) (clauses : List (List Lit)) (k : Kept) (path : List Bool) 
   room_left ne = let d = so.depth in omega (arith, d, ne)
 
 -- no value of any variable is left to try
-pub refuted_at_end : (vars : ℕ) (clauses : List (List Lit)) (k : Kept) (path : List Bool) (refuted : Bool) (steps : List (List Lit)) → IsUnderWay vars clauses k path refuted → refuted ≡ true → path ≡ [] → steps ≡ k.added → IsDerivation k.given steps → IsRefutation clauses steps
-refuted_at_end vars clauses k path refuted steps so is none same derived =
+pub refuted_at_end : (vars : ℕ) (clauses : List (List Lit)) (k : Kept) (path : List Bool) (refuted : Bool) (steps : List (List Lit)) → IsUnderWay vars clauses k path refuted → refuted ≡ true → path ≡ [] → steps ≡ k.added → AreWithin k.vars steps → IsDerivation k.given steps → IsRefutation vars clauses steps
+refuted_at_end vars clauses k path refuted steps so is none same within derived =
     let P : Bool → Type 0 = λ r. IsUnderWay vars clauses k path r in
-    refuted_all vars clauses k path steps (subst P is so) none same derived
+    refuted_all vars clauses k path steps (subst P is so) none same within derived

@@ -139,12 +139,17 @@ module _ (vars : ℕ) (clauses : List (List Lit)) where
       })
 
   -- no path is left
-  pub refuted_all : (k : Kept) (path : List Bool) (steps : List (List Lit)) → IsUnderWay vars clauses k path true → path ≡ [] → steps ≡ k.added → IsDerivation k.given steps → IsRefutation clauses steps
-  refuted_all k path steps so none same derived =
+  pub refuted_all : (k : Kept) (path : List Bool) (steps : List (List Lit)) → IsUnderWay vars clauses k path true → path ≡ [] → steps ≡ k.added → AreWithin k.vars steps → IsDerivation k.given steps → IsRefutation vars clauses steps
+  refuted_all k path steps so none same within derived =
       let P : List (List Lit) → Type 0 = λ cs. IsDerivation cs steps in
       let Q : List Bool → Type 0 = λ p. (before : List (List Lit)) × (k.added ≡ before ++ against p ∷ []) in
+      let R : ℕ → Type 0 = λ n. AreWithin n steps in
       let l = subst Q none (so.last refl) in
-      (subst P so.same_given derived, (l.0, same ∙ l.1))
+      record {
+        within = subst R so.same_vars within;
+        derived = subst P so.same_given derived;
+        ends = (l.0, same ∙ l.1);
+      }
 
   -- each variable has a value, and the clause against them doesn't follow
   pub all_met : (k k' : Kept) (path : List Bool) → AreWithin vars clauses → IsUnderWay vars clauses k path false → IsOffered k k' (against path) false → length path ≡ vars → MeetsAll (value_of path) clauses

@@ -9,6 +9,7 @@ abbrev pub against_from : ℕ → List Bool → List Lit
 against_from n [] = []
 against_from n (b ∷ path) = record { var = n; positive = not b } ∷ against_from (n + 1) path
 
+-- the clause that says that the first variables don't have these values
 abbrev pub against : List Bool → List Lit
 against path = against_from 0 path
 
@@ -24,17 +25,18 @@ pub record IsOffered (old new : Kept) (clause : List Lit) (taken : Bool) : Type 
 abbrev pub FirstsDone : List (List Lit) → List Bool → Type 0
 FirstsDone clauses path = (i : ℕ) → i < length path → get_or path i false ≡ true → Contains clauses (against (take i path ++ false ∷ []))
 
--- an upper bound on the turns in a search below so many variables
+-- an upper bound on the turns of a search over n variables
 abbrev pub turns : ℕ → ℕ
 turns zero = 1
 turns (suc n) = 2 * turns n + 3
 
--- an upper bound on the turns that are left above a path
+-- an upper bound on the turns that are left above a path, in a search over n variables
 abbrev pub turns_above : ℕ → List Bool → ℕ
 turns_above n [] = 0
 turns_above zero (b ∷ path) = 0
 turns_above (suc n) (true ∷ path) = 1 + turns_above n path
 turns_above (suc n) (false ∷ path) = 2 + turns n + turns_above n path
 
+-- an upper bound on the turns that are left at a path, which is refuted or not
 abbrev pub turns_left : ℕ → List Bool → Bool → ℕ
 turns_left vars path refuted = turns_above vars path + (if refuted then 0 else turns (vars - length path))

@@ -33,69 +33,13 @@ fn counted(alloc: Global, length: usize) -> Result<Vec<u8>, AllocError> {
 }
 
 #[test]
-fn a_span_is_compared_by_its_places(rt: HostRuntime) {
-    let span = Span { from: 2, to: 5 };
-    assert_eq!(rt; span, Span { from: 2, to: 5 });
-    assert_ne!(rt; span, Span { from: 2, to: 6 });
-}
-
-#[test]
-fn files_in_memory_fail_where_they_are_told_to(rt: HostRuntime) -> Result<(), Fail> {
-    let alloc = rt.alloc();
-    let mut files = MemFiles::new(alloc)?;
-    files.add("model", b"first")?;
-    files.add("report", b"xyz")?;
-    files.add("model", b"second")?;
-    files.fail_at(1)?;
-    assert!(rt; gives(&mut files, alloc, "model", b"second"));
-    assert!(rt; fails(&mut files, alloc, "report"));
-    assert!(rt; gives(&mut files, alloc, "report", b"xyz"));
-    assert!(rt; fails(&mut files, alloc, "modem"));
-    Ok(())
-}
-
-#[test]
-fn a_long_file_is_too_long_also_where_its_read_is_to_fail(rt: HostRuntime) -> Result<(), Fail> {
-    let alloc = rt.alloc();
-    let past = counted(alloc, 1_048_577)?;
-    let mut files = MemFiles::new(alloc)?;
-    files.add("past", &past)?;
-    files.add("longer", &counted(alloc, 1_048_578)?)?;
-    files.fail_at(1)?;
-    assert!(rt; is_too_long(&mut files, alloc, "past", &past));
-    assert!(rt; is_too_long(&mut files, alloc, "longer", &past));
-    let most = counted(alloc, 1_048_576)?;
-    files.add("past", &most)?;
-    assert!(rt; gives(&mut files, alloc, "past", &most));
-    Ok(())
-}
-
-#[test]
 fn good_files_never_fail(rt: HostRuntime) -> Result<(), Fail> {
     let alloc = rt.alloc();
     let mut files = GoodFiles::new(alloc)?;
     files.add("model", b"first")?;
     files.add("model", b"second")?;
-    files.add("longer", &counted(alloc, 1_048_578)?)?;
     assert!(rt; gives(&mut files, alloc, "model", b"second"));
     assert!(rt; gives(&mut files, alloc, "report", b""));
-    assert!(rt; is_too_long(&mut files, alloc, "longer", &counted(alloc, 1_048_577)?));
-    Ok(())
-}
-
-#[test]
-fn a_sink_in_memory_fails_where_it_is_told_to(rt: HostRuntime) -> Result<(), Fail> {
-    let mut sink = MemSink::new(rt.alloc(), 10)?;
-    sink.fail_at(1)?;
-    sink.fail_at(2)?;
-    assert!(rt; sink.put(b"abcd").is_ok());
-    assert!(rt; sink.put(b"efghi").is_err());
-    assert_eq!(rt; sink.bytes(), b"abcdef".as_slice());
-    assert!(rt; sink.put(b"ghijk").is_err());
-    assert!(rt; sink.put(b"ghijk").is_err());
-    assert_eq!(rt; sink.bytes(), b"abcdef".as_slice());
-    assert!(rt; sink.put(b"ghij").is_ok());
-    assert_eq!(rt; sink.bytes(), b"abcdefghij".as_slice());
     Ok(())
 }
 

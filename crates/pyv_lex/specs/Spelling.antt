@@ -1,23 +1,25 @@
 -- The texts of tokens.
-use Rattle.std.specs.Prelude.{◌≡◌, ℕ, ◌≤◌, List, [], ◌∷◌, cond, codes}
+use Rattle.std.specs.Prelude.{◌≡◌, ℕ, ◌≤◌, List, [], ◌∷◌, cond, zip}
 use Rattle.std.specs.Str.{bytes_eq}
 use Rattle.std.specs.List.{All}
-use Rattle.fo_core.specs.Named.{BeginsWord, ContinuesWord}
+use Rattle.fo_core.specs.Named.{BeginsWord, ContinuesWord, reserved_words}
 use Rattle.pyv_lex.specs.declared.token.Kind.{Kind}
 use Rattle.pyv_lex.specs.declared.token.Kind.TheVariants.{Sort, Mutable, Immutable, Relation, Constant, Function, Axiom, Init, Transition, Modifies, Safety, Invariant, Forall, Exists, New, True, False, Distinct, If, Then, Else, Sat, Unsat, Trace, Theorem, Derived, Definition, Onestate, Twostate, Zerostate, Automaton, Sketch, LetWord, BoolWord, IntWord, Iff, Implies, Unequal, Equal, Bang, Amp, Bar, RoundLeft, RoundRight, SquareLeft, SquareRight, CurlyLeft, CurlyRight, Comma, Dot, Colon, Word, Number, Other}
 
 abbrev pub IsDigit : ℕ → Type 0
 IsDigit b = (48 ≤ b) × (b ≤ 57)
 
--- the reserved words, those that begin or shape a declaration first
+-- the kinds of the reserved words, in the order of these
+abbrev pub reserved_kinds : List Kind
+reserved_kinds =
+    Sort ∷ Mutable ∷ Immutable ∷ Relation ∷ Constant ∷ Function ∷ Axiom ∷ Init ∷ Transition ∷ Modifies
+    ∷ Safety ∷ Invariant ∷ Forall ∷ Exists ∷ New ∷ True ∷ False ∷ Distinct ∷ If ∷ Then ∷ Else ∷ Sat
+    ∷ Unsat ∷ Trace ∷ Theorem ∷ Derived ∷ Definition ∷ Onestate ∷ Twostate ∷ Zerostate ∷ Automaton
+    ∷ Sketch ∷ LetWord ∷ BoolWord ∷ IntWord ∷ []
+
+-- each reserved word with its kind
 abbrev pub reserved : List (List ℕ × Kind)
-reserved =
-    (codes "sort", Sort) ∷ (codes "mutable", Mutable) ∷ (codes "immutable", Immutable) ∷ (codes "relation", Relation) ∷ (codes "constant", Constant) ∷ (codes "function", Function)
-    ∷ (codes "axiom", Axiom) ∷ (codes "init", Init) ∷ (codes "transition", Transition) ∷ (codes "modifies", Modifies) ∷ (codes "safety", Safety) ∷ (codes "invariant", Invariant)
-    ∷ (codes "forall", Forall) ∷ (codes "exists", Exists) ∷ (codes "new", New) ∷ (codes "true", True) ∷ (codes "false", False) ∷ (codes "distinct", Distinct)
-    ∷ (codes "if", If) ∷ (codes "then", Then) ∷ (codes "else", Else) ∷ (codes "sat", Sat) ∷ (codes "unsat", Unsat) ∷ (codes "trace", Trace)
-    ∷ (codes "theorem", Theorem) ∷ (codes "derived", Derived) ∷ (codes "definition", Definition) ∷ (codes "onestate", Onestate) ∷ (codes "twostate", Twostate)
-    ∷ (codes "zerostate", Zerostate) ∷ (codes "automaton", Automaton) ∷ (codes "sketch", Sketch) ∷ (codes "let", LetWord) ∷ (codes "bool", BoolWord) ∷ (codes "int", IntWord) ∷ []
+reserved = zip reserved_words reserved_kinds
 
 -- the kind of the first entry with this text, and Word where there is none
 abbrev pub kind_in : List (List ℕ × Kind) → List ℕ → Kind

@@ -1,11 +1,12 @@
 ghost use Rattle.std.specs.Prelude.{◌≡◌, ◌<◌, ◌≤◌, ◌↔◌, ◌++◌, ◌∷◌, [], ℕ, List, IsTrue, IfSome, MatchOption, length, take, drop, slice_index};
-ghost use Rattle.fo_core.specs.Named.{BeginsWord, ContinuesWord};
+ghost use Rattle.fo_core.specs.Named.{ContinuesWord};
 ghost use Rattle.pyv_lex.specs.Spelling.{IsDigit, Sign};
 ghost use Rattle.pyv_lex.specs.declared.token.Kind.{Kind};
 ghost use Rattle.pyv_lex.specs.Cutting.{IsBlank, IsPiece, BeginsBad};
 
 use crate::token::Kind;
 use crate::words::word_kind;
+use fo_core::{begins_word, continues_word};
 
 /// What stands at the front of a text: a token of a kind, or a gap between tokens, and how many
 /// bytes it takes.
@@ -21,22 +22,10 @@ fn is_blank(byte: u8) -> bool
     byte == b' ' || byte == b'\t' || byte == b'\r' || byte == b'\n'
 }
 
-fn begins_word(byte: u8) -> bool
-    ensures { IsTrue result ↔ BeginsWord byte }
-{
-    byte.is_ascii_alphabetic() || byte == b'_'
-}
-
 fn is_digit(byte: u8) -> bool
     ensures { IsTrue result ↔ IsDigit byte }
 {
     byte >= b'0' && byte <= b'9'
-}
-
-fn continues_word(byte: u8) -> bool
-    ensures { IsTrue result ↔ ContinuesWord byte }
-{
-    begins_word(byte) || is_digit(byte)
 }
 
 /// How many bytes at the front may go on with a word.

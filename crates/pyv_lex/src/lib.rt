@@ -8,6 +8,3 @@ mod words;
 
 pub use lex::tokens;
 pub use token::{Kind, LexFault, Token};
-
-#[cfg(test)]
-mod tests;

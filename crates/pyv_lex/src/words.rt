@@ -1,53 +1,56 @@
-ghost use Rattle.std.specs.Prelude.{◌≡◌, map};
+ghost use Rattle.std.specs.Prelude.{◌≡◌, ◌≤◌, length, map, zip};
 ghost use Rattle.pyv_lex.specs.Spelling.{kind_in, word_kind};
 
 use crate::token::Kind;
+use fo_core::RESERVED_WORDS;
 
-const RESERVED: [(&str, Kind); 35] = [
-    ("sort", Kind::Sort),
-    ("mutable", Kind::Mutable),
-    ("immutable", Kind::Immutable),
-    ("relation", Kind::Relation),
-    ("constant", Kind::Constant),
-    ("function", Kind::Function),
-    ("axiom", Kind::Axiom),
-    ("init", Kind::Init),
-    ("transition", Kind::Transition),
-    ("modifies", Kind::Modifies),
-    ("safety", Kind::Safety),
-    ("invariant", Kind::Invariant),
-    ("forall", Kind::Forall),
-    ("exists", Kind::Exists),
-    ("new", Kind::New),
-    ("true", Kind::True),
-    ("false", Kind::False),
-    ("distinct", Kind::Distinct),
-    ("if", Kind::If),
-    ("then", Kind::Then),
-    ("else", Kind::Else),
-    ("sat", Kind::Sat),
-    ("unsat", Kind::Unsat),
-    ("trace", Kind::Trace),
-    ("theorem", Kind::Theorem),
-    ("derived", Kind::Derived),
-    ("definition", Kind::Definition),
-    ("onestate", Kind::Onestate),
-    ("twostate", Kind::Twostate),
-    ("zerostate", Kind::Zerostate),
-    ("automaton", Kind::Automaton),
-    ("sketch", Kind::Sketch),
-    ("let", Kind::LetWord),
-    ("bool", Kind::BoolWord),
-    ("int", Kind::IntWord),
+/// The kinds of the reserved words, in the order of these.
+const KINDS: [Kind; 35] = [
+    Kind::Sort,
+    Kind::Mutable,
+    Kind::Immutable,
+    Kind::Relation,
+    Kind::Constant,
+    Kind::Function,
+    Kind::Axiom,
+    Kind::Init,
+    Kind::Transition,
+    Kind::Modifies,
+    Kind::Safety,
+    Kind::Invariant,
+    Kind::Forall,
+    Kind::Exists,
+    Kind::New,
+    Kind::True,
+    Kind::False,
+    Kind::Distinct,
+    Kind::If,
+    Kind::Then,
+    Kind::Else,
+    Kind::Sat,
+    Kind::Unsat,
+    Kind::Trace,
+    Kind::Theorem,
+    Kind::Derived,
+    Kind::Definition,
+    Kind::Onestate,
+    Kind::Twostate,
+    Kind::Zerostate,
+    Kind::Automaton,
+    Kind::Sketch,
+    Kind::LetWord,
+    Kind::BoolWord,
+    Kind::IntWord,
 ];
 
-/// The kind of the first entry with this text.
-fn kind_in(entries: &[(&str, Kind)], text: &[u8]) -> Kind
-    ensures { result ≡ kind_in (map (λ e. (e.0.now, e.1)) entries.now) text.now }
+/// The kind at the place of the first word that is this text.
+fn kind_in(words: &[&str], kinds: &[Kind], text: &[u8]) -> Kind
+    requires { length words.now ≤ length kinds.now }
+    ensures { result ≡ kind_in (zip (map (λ w. w.now) words.now) kinds.now) text.now }
 {
-    for (word, kind) in entries {
+    'each: for (place, word) in words.iter().enumerate() {
         if text == word.as_bytes() {
-            return *kind;
+            return kinds[place];
         }
     }
     Kind::Word
@@ -57,5 +60,5 @@ fn kind_in(entries: &[(&str, Kind)], text: &[u8]) -> Kind
 pub(crate) fn word_kind(text: &[u8]) -> Kind
     ensures { result ≡ word_kind text.now }
 {
-    kind_in(&RESERVED, text)
+    kind_in(&RESERVED_WORDS, &KINDS, text)
 }

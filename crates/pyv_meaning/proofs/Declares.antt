@@ -5,14 +5,14 @@ use Rattle.std.specs.List.{AllByRecursion}
 use Rattle.std.proofs.lemmas.List.{length-map}
 use Rattle.fo_core.specs.Named.{AreNames}
 use Rattle.pyv_meaning.specs.Closing.{names_word}
-use Rattle.pyv_meaning.specs.Declaring.{words, symbol_names, sig_in, IsSort, IsDeclared, AreDeclared, is_word, fresh_fault, sorts_fault, past, item_fault, declared_fault}
+use Rattle.pyv_meaning.specs.Declaring.{words, symbol_names, sig_in, IsSort, IsDeclared, AreDeclared, is_name, fresh_fault, sorts_fault, past, item_fault, declared_fault}
 use Rattle.pyv_meaning.specs.Items.{Item, SymbolItem, Body, sort_of, symbol_of, transition_of, step_of, joined_by, sorts, symbols, transitions, steps}
 use Rattle.pyv_meaning.specs.Items as item
 use Rattle.pyv_meaning.specs.NameFaults.{is_declared}
 use Rattle.pyv_meaning.specs.Tree.{Name, Binder, bound_names}
 use Rattle.pyv_meaning.proofs.Basics.{both_fine, then_none, unless_fine, unless_none, not_true, below, is_below}
 use Rattle.pyv_meaning.proofs.Complete.{bound_length}
-use Rattle.pyv_meaning.proofs.Words.{AreNew, new_repeat, new_words, repeat_new, distinct_words, words_distinct, all_words, words_all}
+use Rattle.pyv_meaning.proofs.Words.{AreNew, new_repeat, new_names, repeat_new, distinct_words, words_distinct, all_names, names_all}
 
 -- ---- lists of items
 
@@ -41,7 +41,7 @@ same_symbols xs x e = joined_last symbol_of xs x ∙ ap (λ (t : List SymbolItem
 
 -- ---- where nothing is at fault
 
-fresh_new : (known : List Name) (n : Name) → fresh_fault known n ≡ None → (is_word n.word ≡ true) × (names_word known n.word ≡ false)
+fresh_new : (known : List Name) (n : Name) → fresh_fault known n ≡ None → (is_name n.word ≡ true) × (names_word known n.word ≡ false)
 fresh_new known n f = let k = both_fine _ _ f in (unless_fine _ _ k.0, not_true _ (unless_fine _ _ k.1))
 
 declared_some : (o : Option ℕ) (p : ℕ) → is_declared o p ≡ None → (k : ℕ) × (o ≡ Some k)
@@ -191,7 +191,7 @@ module _ (items : List Item) where
   are_fine known (item.Trace ∷ rest) f = fine_other known item.Trace rest refl refl refl refl (are_fine (known ++ item.Trace ∷ []) rest f)
 
   names_are : (ns : List Name) → AreNew [] ns → AreNames (length ns) (words ns)
-  names_are ns h = record { one_each = length-map ns _; words = all_words ns (new_words [] ns h); distinct = distinct_words ns (new_repeat [] ns tt h) }
+  names_are ns h = record { one_each = length-map ns _; named = all_names ns (new_names [] ns h); distinct = distinct_words ns (new_repeat [] ns tt h) }
 
   -- Declarations without fault declare well.
   pub declared_sound : declared_fault items [] items ≡ None → AreDeclared items
@@ -206,6 +206,8 @@ module _ (items : List Item) where
           sorts = names_are (sorts items) k.new_sorts;
           symbols = subst (λ (c : ℕ). AreNames c (words (symbol_names items))) count_symbols (names_are (symbol_names items) k.new_symbols);
           steps = names_are (transitions items) k.new_transitions;
+          definitions = names_are [] tt;
+          apart = λ i j lt. absurd (omega (arith, lt));
         };
         symbols_declared = k.declared;
         few_sorts = s;
@@ -216,7 +218,7 @@ module _ (items : List Item) where
 
   -- ---- where all is declared well
 
-  fresh_none : (known : List Name) (n : Name) → is_word n.word ≡ true → names_word known n.word ≡ false → fresh_fault known n ≡ None
+  fresh_none : (known : List Name) (n : Name) → is_name n.word ≡ true → names_word known n.word ≡ false → fresh_fault known n ≡ None
   fresh_none known n w h = then_none _ _ (unless_none _ _ w) (rw h refl)
 
   symbols_both : (xs ys : List Item) → symbol_names (xs ++ ys) ≡ symbol_names xs ++ symbol_names ys
@@ -278,7 +280,7 @@ module _ (items : List Item) where
       (subst (λ (z : List Name). length z + length (sorts rest) ≤ 64) (sym one) ls) (subst (λ (z : List SymbolItem). length z + length (symbols rest) ≤ 256) (sym two) ly) (subst (λ (z : List Name). length z + length (transitions rest) ≤ 256) (sym three) lt) p
 
   are_new : (c : ℕ) (ns : List Name) → AreNames c (words ns) → AreNew [] ns
-  are_new c ns h = repeat_new [] ns (words_distinct ns h.distinct) (words_all ns h.words)
+  are_new c ns h = repeat_new [] ns (words_distinct ns h.distinct) (names_all ns h.named)
 
   -- What is declared well has no fault.
   pub declared_complete : AreDeclared items → declared_fault items [] items ≡ None

@@ -1,14 +1,16 @@
 -- Words, and lists of distinct ones.
-use Rattle.std.proofs.Common.{◌≡◌, ℕ, zero, suc, ◌+◌, ◌<◌, ◌≤◌, ◌++◌, ◌&&◌, true, false, List, [], ◌∷◌, length, refl, sym, ap, ◌∙◌, subst, inl, inr, arith, append_assoc}
+use Rattle.std.proofs.Common.{◌≡◌, ℕ, zero, suc, ◌+◌, ◌<◌, ◌≤◌, ◌++◌, ◌&&◌, true, false, not, List, [], ◌∷◌, length, refl, sym, ap, ◌∙◌, subst, inl, inr, arith, append_assoc}
 use Rattle.std.specs.Bool.{Decides}
-use Rattle.std.specs.List.{All, list_all}
+use Rattle.std.specs.List.{All, Contains, list_all, list_any}
+use Rattle.std.specs.Str.{bytes_eq}
 use Rattle.std.specs.Prelude.{nat_lt, slice_index_or, IsUtf8, IsAscii}
 use Rattle.std.proofs.lemmas.Str.{IsUtf8-from_ascii}
-use Rattle.std.proofs.lemmas.Bool.Decides.{Decides-and, Decides-or, Decides-by_and, Decides-eqb}
-use Rattle.std.proofs.lemmas.List.Elements.{All-nil, All-cons, All-head, All-tail}
-use Rattle.fo_core.specs.Named.{BeginsWord, ContinuesWord, IsWord, AreDistinct}
+use Rattle.std.proofs.lemmas.Bool.Decides.{Decides-and, Decides-or, Decides-not, Decides-like, Decides-by_and, Decides-by_or, Decides-eqb}
+use Rattle.std.proofs.lemmas.List.Elements.{All-nil, All-cons, All-head, All-tail, Decides-contains}
+use Rattle.std.proofs.lemmas.Slice.Eq.{bytes_eq-Decides}
+use Rattle.fo_core.specs.Named.{BeginsWord, ContinuesWord, IsWord, reserved_words, IsName, AreDistinct}
 use Rattle.pyv_meaning.specs.Closing.{names_word}
-use Rattle.pyv_meaning.specs.Declaring.{begins_word, continues_word, is_word, words}
+use Rattle.pyv_meaning.specs.Declaring.{begins_word, continues_word, is_word, is_name, words}
 use Rattle.pyv_meaning.specs.Gets.{Among, here, there}
 use Rattle.pyv_meaning.specs.Tree.{Name}
 use Rattle.pyv_meaning.proofs.Basics.{below, is_below, true_or_false, among_right}
@@ -33,7 +35,17 @@ pub word_decided : (w : List ℕ) → Decides (is_word w) (IsWord w)
 word_decided [] = (λ h. absurd (cc), λ h. absurd h)
 word_decided (b ∷ bs) = Decides-and (begins_word b) (list_all continues_word bs) (begins_decided b) (all_continue bs)
 
--- ---- distinct words
+pub among_decided : (w : List ℕ) (ws : List (List ℕ)) → Decides (list_any (bytes_eq w) ws) (Contains ws w)
+among_decided w ws =
+    Decides-contains ws w (list_any (bytes_eq w) ws)
+    (Decides-by_or (bytes_eq w) (λ (y : List ℕ). y ≡ w) (list_any (bytes_eq w)) (λ y. Decides-like (bytes_eq w y) sym sym (bytes_eq-Decides w y)) refl (λ x xs. refl) ws)
+
+pub name_decided : (w : List ℕ) → Decides (is_name w) (IsName w)
+name_decided w =
+    Decides-like (is_name w) (λ h. record { word = h.0; free = h.1 }) (λ h. (h.word, h.free))
+    (Decides-and (is_word w) (not (list_any (bytes_eq w) reserved_words)) (word_decided w) (Decides-not (list_any (bytes_eq w) reserved_words) (among_decided w reserved_words)))
+
+-- ---- distinct names
 
 among_at : (ns : List Name) (i : ℕ) → i < length (words ns) → (n : Name) × Among n ns × (slice_index_or (words ns) i [] ≡ n.word)
 among_at [] i lt = absurd (omega arith)
@@ -57,18 +69,18 @@ words_distinct (n ∷ ns) d = (
   words_distinct ns (λ i j lt le e. d (suc i) (suc j) (omega arith) (omega arith) e),
 )
 
-pub all_words : (ns : List Name) → ((n : Name) → Among n ns → is_word n.word ≡ true) → All IsWord (words ns)
-all_words [] h = All-nil IsWord
-all_words (n ∷ ns) h = All-cons IsWord n.word (words ns) ((word_decided n.word).0 (h n (here _ _))) (all_words ns (λ m q. h m (there _ _ _ q)))
+pub all_names : (ns : List Name) → ((n : Name) → Among n ns → is_name n.word ≡ true) → All IsName (words ns)
+all_names [] h = All-nil IsName
+all_names (n ∷ ns) h = All-cons IsName n.word (words ns) ((name_decided n.word).0 (h n (here _ _))) (all_names ns (λ m q. h m (there _ _ _ q)))
 
-pub words_all : (ns : List Name) → All IsWord (words ns) → (n : Name) → Among n ns → is_word n.word ≡ true
-words_all _ h n (here _ ns) = (word_decided n.word).1 (All-head IsWord n.word (words ns) h)
-words_all _ h n (there _ m ns q) = words_all ns (All-tail IsWord m.word (words ns) h) n q
+pub names_all : (ns : List Name) → All IsName (words ns) → (n : Name) → Among n ns → is_name n.word ≡ true
+names_all _ h n (here _ ns) = (name_decided n.word).1 (All-head IsName n.word (words ns) h)
+names_all _ h n (there _ m ns q) = names_all ns (All-tail IsName m.word (words ns) h) n q
 
--- Each name is a word, and none of those before it.
+-- Each is a name, and none of those before it.
 abbrev pub AreNew : List Name → List Name → Type 0
 AreNew known [] = Unit {0}
-AreNew known (n ∷ ns) = (is_word n.word ≡ true) × (names_word known n.word ≡ false) × AreNew (known ++ n ∷ []) ns
+AreNew known (n ∷ ns) = (is_name n.word ≡ true) × (names_word known n.word ≡ false) × AreNew (known ++ n ∷ []) ns
 
 pub new_repeat : (known ns : List Name) → NoRepeat known → AreNew known ns → NoRepeat (known ++ ns)
 new_repeat known [] r h = subst NoRepeat (sym (append_none known)) r
@@ -78,9 +90,9 @@ new_repeat known [] r h = subst NoRepeat (sym (append_none known)) r
     append_none (n ∷ ns) = ap (λ (t : List Name). n ∷ t) (append_none ns)
 new_repeat known (n ∷ ns) r h = subst NoRepeat (append_assoc known (n ∷ []) ns) (new_repeat (known ++ n ∷ []) ns (one_more known n h.1 r) h.2)
 
-pub new_words : (known ns : List Name) → AreNew known ns → (n : Name) → Among n ns → is_word n.word ≡ true
-new_words known _ h n (here _ ns) = h.0
-new_words known _ h n (there _ m ns q) = new_words (known ++ m ∷ []) ns h.2 n q
+pub new_names : (known ns : List Name) → AreNew known ns → (n : Name) → Among n ns → is_name n.word ≡ true
+new_names known _ h n (here _ ns) = h.0
+new_names known _ h n (there _ m ns q) = new_names (known ++ m ∷ []) ns h.2 n q
 
 apart : (a b : List Name) (n m : Name) → NoRepeat (a ++ n ∷ b) → Among m a → m.word ≡ n.word → ⊥
 apart _ b n m r (here _ a) e = r.0 n (among_right n a (n ∷ b) (here _ _)) (sym e)
@@ -89,7 +101,7 @@ apart _ b n m r (there _ k a q) e = apart a b n m r.1 q e
 pub not_named : (a b : List Name) (n : Name) → NoRepeat (a ++ n ∷ b) → names_word a n.word ≡ false
 not_named a b n r = elim (true_or_false (names_word a n.word)) [ inl t ↦ let w = word_has a n.word t in absurd (apart a b n w.0 r w.1 w.2) | inr t ↦ t ]
 
-pub repeat_new : (known ns : List Name) → NoRepeat (known ++ ns) → ((n : Name) → Among n ns → is_word n.word ≡ true) → AreNew known ns
+pub repeat_new : (known ns : List Name) → NoRepeat (known ++ ns) → ((n : Name) → Among n ns → is_name n.word ≡ true) → AreNew known ns
 repeat_new known [] r w = tt
 repeat_new known (n ∷ ns) r w = (w n (here _ _), not_named known ns n r, repeat_new (known ++ n ∷ []) ns (subst NoRepeat (sym (append_assoc known (n ∷ []) ns)) r) (λ m q. w m (there _ _ _ q)))
 

@@ -2,7 +2,7 @@
 use Rattle.std.specs.Prelude.{◌≡◌, ℕ, zero, suc, ◌≤◌, ◌++◌, ◌&&◌, ◌||◌, ◌==◌, ◌⊎◌, Bool, false, not, nat_lt, List, [], ◌∷◌, length, map, Option, Some, None, IfSome, is_none, option_to_list}
 use Rattle.std.specs.List.{AllByRecursion, list_all, list_any}
 use Rattle.std.specs.Str.{bytes_eq}
-use Rattle.fo_core.specs.Named.{NamesFit}
+use Rattle.fo_core.specs.Named.{reserved_words, NamesFit}
 use Rattle.fo_core.specs.declared.names.Names.{Names}
 use Rattle.fo_core.specs.declared.signature.Sig.{Sig}
 use Rattle.fo_core.specs.declared.signature.Symbol.{Symbol}
@@ -25,7 +25,7 @@ symbol_names items = map (λ (s : SymbolItem). s.name) (symbols items)
 
 -- names are numbered in order of declaration
 abbrev pub names_in : List Item → Names
-names_in items = record { sorts = words (sorts items); symbols = words (symbol_names items); steps = words (transitions items) }
+names_in items = record { sorts = words (sorts items); symbols = words (symbol_names items); steps = words (transitions items); definitions = [] }
 
 -- the number of a declared sort
 abbrev pub sort_number : List Item → Name → ℕ
@@ -57,7 +57,7 @@ pub record IsDeclared (items : List Item) (s : SymbolItem) : Type 0 where
   pub result : IfSome s.result (IsSort items)
   pub few : length s.args ≤ 8
 
--- Names are words, each declared once in its space; sorts of symbols are declared, before or behind them; and there are
+-- Names are words that aren't reserved, each declared once in its space; sorts of symbols are declared, before or behind them; and there are
 -- at most 64 sorts, 256 symbols, 256 transitions, and 16 parameters of each.
 pub record AreDeclared (items : List Item) : Type 0 where
   pub fit : NamesFit (sig_in items) (length (transitions items)) (names_in items)
@@ -79,9 +79,13 @@ abbrev pub is_word : List ℕ → Bool
 is_word [] = false
 is_word (b ∷ bs) = begins_word b && list_all continues_word bs
 
--- A name, declared behind the known ones: it is a word, as each name is that a text spells, and none of them.
+-- a word that isn't reserved
+abbrev pub is_name : List ℕ → Bool
+is_name w = is_word w && not (list_any (bytes_eq w) reserved_words)
+
+-- A name, declared after the known ones: it is a name, as each is that a text spells, and none of them.
 abbrev pub fresh_fault : List Name → Name → Option SortFault
-fresh_fault known n = unless (is_word n.word) (UnknownName n.place) then unless (not (list_any (λ (k : Name). bytes_eq k.word n.word) known)) (TwiceDeclared n.place)
+fresh_fault known n = unless (is_name n.word) (UnknownName n.place) then unless (not (list_any (λ (k : Name). bytes_eq k.word n.word) known)) (TwiceDeclared n.place)
 
 -- the first name that is no sort's
 abbrev pub sorts_fault : List Item → List Name → Option SortFault

@@ -3,7 +3,7 @@
 ghost use Rattle.std.specs.Prelude.{◌≡◌, ◌⊎◌, ◌<◌, ◌≤◌, ◌^◌, ℕ, List, length};
 ghost use Rattle.fo_core.specs.declared.names.Names.{Names};
 ghost use Rattle.fo_core.specs.declared.system.System.{System};
-ghost use Rattle.fo_core.specs.Named.{IsWord, NamesFit};
+ghost use Rattle.fo_core.specs.Named.{IsName, NamesFit};
 ghost use Rattle.fo_core.specs.Sorted.{IsSystem, IsWithinDepth};
 ghost use Rattle.pyv_grammar.specs.declared.tree.Model.{Model};
 ghost use Rattle.pyv_grammar.specs.Grammar.{Limits, SpellsFile};
@@ -39,10 +39,10 @@ pub fn sorts_are_decided()
     ensures { (uses : List Use) (v : ℕ) → ((s : ℕ) × GetsOnly uses v s) ⊎ GetsNone uses v ⊎ GetsTwo uses v }
 {}
 
-/// The names that a file declares are words, and it has no more declarations than tokens, where
-/// tokens of the text spell it. So a declared name that is no word is a fault of trees alone that
-/// no text spells.
-pub fn spelt_names_are_words()
-    ensures words { (bytes : List ℕ) (tokens : List Token) (limits : Limits) (m : Model) → AreTokens bytes tokens → SpellsFile limits m.decls tokens → (n : Name) → IsDeclaredName (items_of bytes m.decls) n → IsWord n.word }
+/// The names that a file declares are words that aren't reserved, and it has no more declarations
+/// than tokens, where tokens of the text spell it. So a declared name that is no word or a reserved
+/// one is a fault of trees alone that no text spells.
+pub fn spelt_names_are_not_reserved()
+    ensures names { (bytes : List ℕ) (tokens : List Token) (limits : Limits) (m : Model) → AreTokens bytes tokens → SpellsFile limits m.decls tokens → (n : Name) → IsDeclaredName (items_of bytes m.decls) n → IsName n.word }
     ensures few { (tokens : List Token) (limits : Limits) (m : Model) → SpellsFile limits m.decls tokens → length m.decls ≤ length tokens }
 {}

@@ -9,7 +9,7 @@ mod variable;
 
 pub use fault::SortFault;
 pub use laws::{
-    meanings_are_well_sorted, sorts_are_decided, spelt_names_are_words, trees_mean_or_fault,
+    meanings_are_well_sorted, sorts_are_decided, spelt_names_are_not_reserved, trees_mean_or_fault,
 };
 pub use stand::Stand;
 pub use variable::{Meaning, Side, Use};

@@ -13,6 +13,4 @@ mod reader;
 
 pub use fault::ParseFault;
 pub use file::{one_tree, parse};
-
-#[cfg(test)]
-mod tests;
+pub use pyv_grammar::{Bound, Decl, Expr, Model};

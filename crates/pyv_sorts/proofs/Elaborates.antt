@@ -4,7 +4,7 @@ use Rattle.std.specs.Prelude.{Option, Some, None, Result, Ok, Err, IfOk, IfErr, 
 use Rattle.std.specs.List.{AllByRecursion, All}
 use Rattle.std.proofs.lemmas.List.{length-map}
 use Rattle.std.proofs.lemmas.List.Elements.{All-head, All-tail}
-use Rattle.fo_core.specs.Named.{IsWord, NamesFit}
+use Rattle.fo_core.specs.Named.{IsName, NamesFit}
 use Rattle.fo_core.specs.Sorted.{IsSystem, IsWithinDepth}
 use Rattle.fo_core.specs.declared.names.Names.{Names}
 use Rattle.fo_core.specs.declared.signature.Sig.{Sig}
@@ -33,9 +33,9 @@ use Rattle.pyv_sorts.specs.Vocabulary.{Vocabulary}
 use Rattle.pyv_sorts.specs.declared.model.Elaborated.{Elaborated}
 use Rattle.pyv_sorts.proofs.Meant.{or_memory, fails_or}
 
-all_text : (ws : List (List ℕ)) → All IsWord ws → AllByRecursion IsUtf8 ws
+all_text : (ws : List (List ℕ)) → All IsName ws → AllByRecursion IsUtf8 ws
 all_text [] h = tt
-all_text (w ∷ ws) h = (word_utf8 w (All-head IsWord w ws h), all_text ws (All-tail IsWord w ws h))
+all_text (w ∷ ws) h = (word_utf8 w (All-head IsName w ws h).word, all_text ws (All-tail IsName w ws h))
 
 module _ (bytes : List ℕ) (m : Model) where
   abbrev pub items : List Item
@@ -105,13 +105,13 @@ module _ (bytes : List ℕ) (m : Model) where
     few_params = subst (λ (xs : List Decl). HaveFew (items_of v.bytes xs)) (sym k.decls) (subst (λ (b : List ℕ). HaveFew (items_of b m.decls)) (sym k.same) (declared_sound items k.fine).few_params)
 
     pub sort_texts : AllByRecursion IsUtf8 v.names.sorts
-    sort_texts = subst (λ (n : Names). AllByRecursion IsUtf8 n.sorts) (sym k.named) (all_text _ (declared_sound items k.fine).fit.sorts.words)
+    sort_texts = subst (λ (n : Names). AllByRecursion IsUtf8 n.sorts) (sym k.named) (all_text _ (declared_sound items k.fine).fit.sorts.named)
 
     pub symbol_texts : AllByRecursion IsUtf8 v.names.symbols
-    symbol_texts = subst (λ (n : Names). AllByRecursion IsUtf8 n.symbols) (sym k.named) (all_text _ (declared_sound items k.fine).fit.symbols.words)
+    symbol_texts = subst (λ (n : Names). AllByRecursion IsUtf8 n.symbols) (sym k.named) (all_text _ (declared_sound items k.fine).fit.symbols.named)
 
     pub step_texts : AllByRecursion IsUtf8 v.names.steps
-    step_texts = subst (λ (n : Names). AllByRecursion IsUtf8 n.steps) (sym k.named) (all_text _ (declared_sound items k.fine).fit.steps.words)
+    step_texts = subst (λ (n : Names). AllByRecursion IsUtf8 n.steps) (sym k.named) (all_text _ (declared_sound items k.fine).fit.steps.named)
 
     pub sort_count : v.sig.sorts ≡ length v.names.sorts
     sort_count = ap (λ (g : Sig). g.sorts) k.signed ∙ sym (ap (λ (n : Names). length n.sorts) k.named ∙ length-map (sorts items) (λ (n : Name). n.word))

@@ -2,11 +2,11 @@
 use Rattle.std.proofs.Common.{◌≡◌, ℕ, zero, suc, ◌+◌, ◌<◌, ◌≤◌, ◌++◌, ◌||◌, ◌⊎◌, inl, inr, Bool, true, false, not, cond, List, [], ◌∷◌, length, get_or, map, drop, refl, sym, ap, ap₂, ◌∙◌, subst, arith, append_assoc}
 use Rattle.std.specs.Prelude.{Option, Some, None, option_map, is_some, Result, nat_lt, IsTrue, ◌↔◌}
 use Rattle.std.specs.Str.{bytes_eq}
-use Rattle.fo_core.specs.Named.{IsWord}
+use Rattle.fo_core.specs.Named.{IsName}
 use Rattle.pyv_meaning.specs.declared.fault.SortFault.{SortFault}
 use Rattle.pyv_meaning.specs.declared.fault.SortFault.TheVariants.{Memory, UnknownName, TwiceDeclared, WrongArity, SortClash, NoSort, NotATerm, NotAFormula, NewOutsideStep, NewTwice, NotMutable, TooMany}
 use Rattle.pyv_meaning.specs.Closing.{names_word}
-use Rattle.pyv_meaning.specs.Declaring.{words, symbol_names, names_in, sig_in, symbol_in, declared_fault, is_word, fresh_fault, sorts_fault, past}
+use Rattle.pyv_meaning.specs.Declaring.{words, symbol_names, names_in, sig_in, symbol_in, declared_fault, is_name, fresh_fault, sorts_fault, past}
 use Rattle.pyv_meaning.specs.Items.{Item, SymbolItem, sorts, symbols}
 use Rattle.pyv_meaning.specs.NameFaults.{◌then◌, unless, is_declared}
 use Rattle.pyv_meaning.specs.Scope.{number}
@@ -20,7 +20,7 @@ use Rattle.pyv_meaning.proofs.Declares.{few_past, declared_sound}
 use Rattle.pyv_meaning.proofs.Progress.{rest_more}
 use Rattle.pyv_sorts.specs.Tells.{Fails, Tells}
 use Rattle.pyv_meaning.proofs.Basics.{true_or_false}
-use Rattle.pyv_meaning.proofs.Words.{word_decided, not_named, words_distinct}
+use Rattle.pyv_meaning.proofs.Words.{name_decided, not_named, words_distinct}
 use Rattle.pyv_meaning.proofs.Lookups.{NoRepeat, same_bytes}
 use Rattle.fo_core.specs.declared.names.Names.{Names}
 use Rattle.fo_core.specs.declared.signature.Sig.{Sig}
@@ -59,14 +59,14 @@ some_named (n ∷ ns) w k h =
       | inr t ↦ let r = mapped_some (number (words ns) w) k (rw t at h) in rw t (some_named ns w r.0 r.1)
     ]
 
-pub fresh_word : (ns : List Name) (n : Name) → (IsWord n.word → ⊥) → fresh_fault ns n ≡ Some (UnknownName n.place)
-fresh_word ns n h = elim (true_or_false (is_word n.word)) [ inl t ↦ absurd (h ((word_decided n.word).0 t)) | inr t ↦ rw t refl ]
+pub fresh_no_name : (ns : List Name) (n : Name) → (IsName n.word → ⊥) → fresh_fault ns n ≡ Some (UnknownName n.place)
+fresh_no_name ns n h = elim (true_or_false (is_name n.word)) [ inl t ↦ absurd (h ((name_decided n.word).0 t)) | inr t ↦ rw t refl ]
 
-pub fresh_taken : (ns : List Name) (n : Name) (k : ℕ) → IsWord n.word → number (words ns) n.word ≡ Some k → fresh_fault ns n ≡ Some (TwiceDeclared n.place)
-fresh_taken ns n k w h = rw ((word_decided n.word).1 w, some_named ns n.word k h) refl
+pub fresh_taken : (ns : List Name) (n : Name) (k : ℕ) → IsName n.word → number (words ns) n.word ≡ Some k → fresh_fault ns n ≡ Some (TwiceDeclared n.place)
+fresh_taken ns n k w h = rw ((name_decided n.word).1 w, some_named ns n.word k h) refl
 
-pub fresh_free : (ns : List Name) (n : Name) → IsWord n.word → number (words ns) n.word ≡ None → fresh_fault ns n ≡ None
-fresh_free ns n w h = rw ((word_decided n.word).1 w, none_named ns n.word h) refl
+pub fresh_free : (ns : List Name) (n : Name) → IsName n.word → number (words ns) n.word ≡ None → fresh_fault ns n ≡ None
+fresh_free ns n w h = rw ((name_decided n.word).1 w, none_named ns n.word h) refl
 
 -- ---- the answers of the test
 
@@ -78,22 +78,22 @@ yes_then : (P : Type 0) (b : Bool) → b ≡ true → IsTrue b ↔ P → P
 yes_then P true e h = h.0 refl
 yes_then P false e h = absurd (cc)
 
-module _ (known : List (List ℕ)) (n : Name) (w : List ℕ) (b : Bool) (is : w ≡ n.word) (test : IsTrue b ↔ IsWord w) (ns : List Name) (same : known ≡ words ns) where
-  its_word : b ≡ true → IsWord n.word
-  its_word e = subst IsWord is (yes_then (IsWord w) b e test)
+module _ (known : List (List ℕ)) (n : Name) (w : List ℕ) (b : Bool) (is : w ≡ n.word) (test : IsTrue b ↔ IsName w) (ns : List Name) (same : known ≡ words ns) where
+  its_name : b ≡ true → IsName n.word
+  its_name e = subst IsName is (yes_then (IsName w) b e test)
 
   pub fresh_not : b ≡ false → fresh_fault ns n ≡ Some (UnknownName n.place)
-  fresh_not e = fresh_word ns n (λ h. not_yes (IsWord w) b e test (subst IsWord (sym is) h))
+  fresh_not e = fresh_no_name ns n (λ h. not_yes (IsName w) b e test (subst IsName (sym is) h))
 
   its_number : number known w ≡ number (words ns) n.word
   its_number = ap₂ number same is
 
   pub fresh_twice : b ≡ true → (o : Option ℕ) → o ≡ number known w → is_some o ≡ true → fresh_fault ns n ≡ Some (TwiceDeclared n.place)
   fresh_twice e None h s = absurd (cc)
-  fresh_twice e (Some k) h s = fresh_taken ns n k (its_word e) (sym (h ∙ its_number))
+  fresh_twice e (Some k) h s = fresh_taken ns n k (its_name e) (sym (h ∙ its_number))
 
   pub fresh_new : b ≡ true → (o : Option ℕ) → o ≡ number known w → is_some o ≡ false → fresh_fault ns n ≡ None
-  fresh_new e None h s = fresh_free ns n (its_word e) (sym (h ∙ its_number))
+  fresh_new e None h s = fresh_free ns n (its_name e) (sym (h ∙ its_number))
   fresh_new e (Some k) h s = absurd (cc)
 
 -- ---- limits
@@ -259,7 +259,7 @@ pub knows_of : (ws : List (List ℕ)) (items : List Item) → ws ≡ gathered []
 knows_of ws items e = subst (λ (z : List (List ℕ)). Knows z items) (sym e) (gathered_knows items)
 
 abbrev make_names : List (List ℕ) → List (List ℕ) → List (List ℕ) → Names
-make_names a b c = record { sorts = a; symbols = b; steps = c }
+make_names a b c = record { sorts = a; symbols = b; steps = c; definitions = [] }
 
 abbrev make_sig : ℕ → List SymbolOf → Sig
 make_sig n ss = record { sorts = n; symbols = ss }
@@ -268,7 +268,7 @@ module _ (items : List Item) (fine : declared_fault items [] items ≡ None) (ws
   all_sorts : ws ≡ words (sorts items)
   all_sorts = let h = declared_sound items fine in are ∙ gathered_all [] (sorts items) (words_distinct (sorts items) h.fit.sorts.distinct)
 
-  pub all_names : (names : Names) → names ≡ record { sorts = ws; symbols = d.names; steps = d.steps } → names ≡ names_in items
+  pub all_names : (names : Names) → names ≡ record { sorts = ws; symbols = d.names; steps = d.steps; definitions = [] } → names ≡ names_in items
   all_names names e = e ∙ ap (λ (z : List (List ℕ)). make_names z d.names d.steps) all_sorts ∙ ap₂ (λ (y z : List (List ℕ)). make_names (words (sorts items)) y z) noted.has_names noted.has_steps
 
   pub all_symbols : (sig : Sig) → sig ≡ record { sorts = length ws; symbols = d.symbols } → sig ≡ sig_in items

@@ -1,7 +1,6 @@
 //! What the declarations of a model declare, and the first fault among them.
 
 ghost use Rattle.std.specs.Prelude.{◌≡◌, ◌↔◌, ◌++◌, ℕ, List, [], ◌∷◌, length, map, nat_lt, None, Some, IsTrue, IfOk, OnOk};
-ghost use Rattle.fo_core.specs.Named.{BeginsWord, ContinuesWord, IsWord};
 ghost use Rattle.pyv_meaning.specs.declared.fault.SortFault.TheVariants.{TooMany};
 ghost use Rattle.pyv_meaning.specs.Declaring.{words, symbol_names, names_in, sig_in, fresh_fault, past, item_fault, declared_fault};
 ghost use Rattle.pyv_meaning.specs.Items.{Item, Sort as SortItem, Transition as TransitionItem, items_of, item_of, sorts as sorts_of, symbols as symbols_of, transitions as transitions_of};
@@ -14,7 +13,7 @@ ghost use Rattle.pyv_sorts.specs.Tells.{Tells};
 
 use crate::known::{Known, word};
 use crate::words::Words;
-use fo_core::{Seq, Symbol};
+use fo_core::{Seq, Symbol, is_name};
 use pv_base::Span;
 use pyv_grammar::{Bound, Decl};
 use pyv_meaning::SortFault;
@@ -52,35 +51,14 @@ fn sort_names<'a>(alloc: Global, bytes: &'a [u8], decls: &[Decl]) -> Result<Word
     Ok(sorts)
 }
 
-fn begins_word(byte: u8) -> bool
-    ensures { IsTrue result ↔ BeginsWord byte }
-{
-    matches!(byte, b'A'..=b'Z' | b'a'..=b'z' | b'_')
-}
-
-fn continues_word(byte: u8) -> bool
-    ensures { IsTrue result ↔ ContinuesWord byte }
-{
-    begins_word(byte) || matches!(byte, b'0'..=b'9')
-}
-
-/// Whether the bytes are a word: a letter or `_`, and then letters, digits and `_`.
-fn is_word(bytes: &[u8]) -> bool
-    ensures { IsTrue result ↔ IsWord bytes.now }
-{
-    match bytes {
-        [] => false,
-        [first, rest @ ..] => begins_word(*first) && rest.iter().all(|b| continues_word(*b)),
-    }
-}
-
-/// Tests that a name is a word, as each name of a text is, and none of those declared before.
+/// Tests that a name is a word that isn't reserved, as each name of a text is, and none of those
+/// declared before.
 fn fresh(known: &Words<'_>, bytes: &[u8], name: Span) -> Result<(), SortFault>
     ensures tells { (ns : List Name) → known.now ≡ words ns → Tells result (fresh_fault ns (name_of bytes.now name)) }
     ensures new { OnOk result (number_of known.now (word_of bytes.now name) ≡ None) }
 {
     let word = word(bytes, name);
-    if !is_word(word) {
+    if !is_name(word) {
         return Err(SortFault::UnknownName(name.from));
     }
     if known.number(word).is_some() {

@@ -1,6 +1,6 @@
 //! What a model declares.
 
-ghost use Rattle.std.specs.Prelude.{◌≡◌, ◌<◌, length, IfSome};
+ghost use Rattle.std.specs.Prelude.{◌≡◌, ◌<◌, [], length, IfSome};
 ghost use Rattle.fo_core.specs.Tables.{symbol_at};
 ghost use Rattle.pyv_meaning.specs.Closing.{is_capital as begins_capital};
 ghost use Rattle.pyv_meaning.specs.Scope.{number as number_of, resolve as resolve_of};
@@ -45,12 +45,12 @@ pub struct Known<'a> {
 }
 
 impl<'a> Model for Known<'a> {
-    ghost use Rattle.std.specs.Prelude.{◌≡◌, length};
+    ghost use Rattle.std.specs.Prelude.{◌≡◌, [], length};
     ghost use Rattle.pyv_sorts.specs.Vocabulary.{Vocabulary};
 
     ghost Value = { Vocabulary };
 
-    ghost view = { λ k. record { bytes = k.bytes.now; names = record { sorts = k.sorts; symbols = k.names; steps = k.steps }; sig = record { sorts = length k.sorts; symbols = k.symbols } } };
+    ghost view = { λ k. record { bytes = k.bytes.now; names = record { sorts = k.sorts; symbols = k.names; steps = k.steps; definitions = [] }; sig = record { sorts = length k.sorts; symbols = k.symbols } } };
 
     ghost invariant = { λ k. length k.symbols ≡ length k.names };
 }
@@ -66,7 +66,7 @@ impl<'a> Known<'a> {
     ) -> Known<'a>
         requires { length symbols ≡ length names }
         ensures bytes { result.bytes ≡ bytes.now }
-        ensures names { result.names ≡ record { sorts = sorts.entry; symbols = names.entry; steps = steps.entry } }
+        ensures names { result.names ≡ record { sorts = sorts.entry; symbols = names.entry; steps = steps.entry; definitions = [] } }
         ensures sig { result.sig ≡ record { sorts = length sorts.entry; symbols = symbols } }
     {
         Known {
@@ -150,6 +150,7 @@ impl<'a> Known<'a> {
         ensures names { result.1 ≡ self.entry.names.symbols }
         ensures symbols { result.2 ≡ self.entry.sig.symbols }
         ensures steps { result.3 ≡ self.entry.names.steps }
+        ensures definitions { self.entry.names.definitions ≡ [] }
     {
         let Known {
             bytes: _,

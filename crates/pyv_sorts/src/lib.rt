@@ -21,6 +21,3 @@ mod words;
 
 pub use model::{Elaborated, elaborate};
 pub use pyv_meaning::SortFault;
-
-#[cfg(test)]
-mod tests;

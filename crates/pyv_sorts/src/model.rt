@@ -224,6 +224,7 @@ fn signature(alloc: Global, known: Known<'_>) -> Result<(Sig, Names), AllocError
         sorts: texts_of(alloc, sorts.as_slice())?,
         symbols: texts_of(alloc, names.as_slice())?,
         steps: texts_of(alloc, transitions.as_slice())?,
+        definitions: Seq::new(alloc),
     };
     Ok((sig, names))
 }
@@ -235,7 +236,7 @@ fn signature(alloc: Global, known: Known<'_>) -> Result<(Sig, Names), AllocError
 /// for in this order: those of the declarations of sorts, symbols and transitions, in file order;
 /// then, for each body in file order, those of its names from left to right, of its variables in
 /// the order in which they are bound, and of its applications from left to right. A declared name
-/// that is no word, which no text spells, is an unknown name.
+/// that is no word or is reserved, which no text spells, is an unknown name.
 pub fn elaborate(alloc: Global, bytes: &[u8], m: &Model) -> Result<Elaborated, SortFault>
     // What is answered is meant.
     ensures found { IfOk result (λ e. MeansSystem bytes.now m.now e.sys e.names) }

@@ -1,5 +1,5 @@
 -- What formulas that are said of a copy say, and their edges.
-use Rattle.std.proofs.Common.{◌≡◌, ℕ, true, false, ◌+◌, ◌<◌, ◌≤◌, ◌^◌, List, [], get_or, sym, subst, arith}
+use Rattle.std.proofs.Common.{◌≡◌, ℕ, true, false, ◌+◌, ◌<◌, ◌≤◌, ◌^◌, List, [], get_or, subst, arith}
 use Rattle.std.specs.List.{All}
 use Rattle.fo_core.specs.declared.signature.Sig.{Sig}
 use Rattle.fo_core.specs.declared.formula.Formula.{Formula}

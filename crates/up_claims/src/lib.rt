@@ -12,6 +12,3 @@ pub use kind::Kind;
 pub use laws::{inductive_where_no_case_breaks, inductive_where_nothing_breaks};
 pub use unroll::unroll_query;
 pub use verify::verify_query;
-
-#[cfg(test)]
-mod tests;

@@ -6,33 +6,9 @@ ghost use Rattle.up_claims.specs.Transitions.{same_truth as same_truth_of, same_
 ghost use Rattle.fo_core.specs.Over.{all_over as all_over_of, some_over as some_over_of, variables as variables_of};
 
 use fo_core::{
-    Boxed, Formula, Seq, Sig, Step, Symbol, System, Term, all_over, some_over, variables,
+    Formula, Seq, Sig, Step, Symbol, System, Term, all_over, some_over, variables,
 };
 use std::alloc::{AllocError, Global};
-
-fn not(alloc: Global, f: Formula) -> Result<Formula, AllocError>
-    ensures { IfOk result (λ g. g ≡ F.Not f) }
-{
-    Ok(Formula::Not(Boxed::new(alloc, f)?))
-}
-
-fn either(alloc: Global, f: Formula, g: Formula) -> Result<Formula, AllocError>
-    ensures { IfOk result (λ h. h ≡ F.Or (f ∷ g ∷ [])) }
-{
-    let mut parts = Seq::new(alloc);
-    parts.push(f)?;
-    parts.push(g)?;
-    Ok(Formula::Or(parts))
-}
-
-fn both(alloc: Global, f: Formula, g: Formula) -> Result<Formula, AllocError>
-    ensures { IfOk result (λ h. h ≡ F.And (f ∷ g ∷ [])) }
-{
-    let mut parts = Seq::new(alloc);
-    parts.push(f)?;
-    parts.push(g)?;
-    Ok(Formula::And(parts))
-}
 
 /// The relation of the variables from this number on, in this copy.
 fn relation(
@@ -64,11 +40,11 @@ fn function(
 fn same_truth(alloc: Global, symbol: u32, from: usize, count: usize) -> Result<Formula, AllocError>
     ensures { IfOk result (λ f. f ≡ same_truth_of symbol (variables_of from count)) }
 {
-    let after = not(alloc, relation(alloc, symbol, 1, from, count)?)?;
-    let left = either(alloc, after, relation(alloc, symbol, 0, from, count)?)?;
-    let before = not(alloc, relation(alloc, symbol, 0, from, count)?)?;
-    let right = either(alloc, relation(alloc, symbol, 1, from, count)?, before)?;
-    both(alloc, left, right)
+    let after = Formula::not(alloc, relation(alloc, symbol, 1, from, count)?)?;
+    let left = Formula::either(alloc, after, relation(alloc, symbol, 0, from, count)?)?;
+    let before = Formula::not(alloc, relation(alloc, symbol, 0, from, count)?)?;
+    let right = Formula::either(alloc, relation(alloc, symbol, 1, from, count)?, before)?;
+    Formula::both(alloc, left, right)
 }
 
 /// The symbol is the same in copies 0 and 1 for the variables from this number on.

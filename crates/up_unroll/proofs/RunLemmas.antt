@@ -15,7 +15,8 @@ use Rattle.fo_min.specs.Found.{IsFoundLeast}
 use Rattle.up_claims.specs.Breaking.{IsViolatingRunOf}
 use Rattle.up_claims.specs.Claims.{unroll_claims}
 use Rattle.up_unroll.specs.declared.unrolling.Unrolled.TheVariants.{Run}
-use Rattle.up_unroll.specs.Unrolling.{run_query, run_queries, HasNoRunOf, IsLeastRun, IsUnrolled}
+use Rattle.up_claims.specs.RunQueries.{run_query, run_queries, HasNoRunOf, IsLeastRun}
+use Rattle.up_unroll.specs.Unrolling.{IsUnrolled}
 use Rattle.fo_core.specs.Finds.{IsLight}
 
 same-query : (copies : ℕ) (claims : List Formula) (q : Query) → q.copies ≡ copies → q.claims ≡ claims → q ≡ record { copies = copies; claims = claims }

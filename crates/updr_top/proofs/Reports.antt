@@ -31,7 +31,7 @@ module _ (text : List ℕ) where
 
 module _ (most ending : ℕ) (small : most < 2 ^ 64) (ends : ending < 48) where
   abbrev one_number : Exact (λ x. (0 ≤ x) × (x ≤ most)) (λ x. decimal x ++ ending ∷ []) (number_at 0 most ending)
-  one_number = exact_number 0 most ending (record { low = omega arith; range = omega arith; small = small; ends = ends })
+  one_number = exact_number 0 most ending (record { range = omega arith; small = small; ends = ends })
 
   number_takes : (bytes : List ℕ) (x : ℕ) (rest : List ℕ) → number_at 0 most ending bytes ≡ Ok (x, rest) → (bytes ≡ decimal x ++ ending ∷ rest) × (x ≤ most)
   number_takes bytes x rest is =

@@ -9,7 +9,8 @@ use Rattle.fo_min.specs.declared.found.Excess.{Excess}
 use Rattle.fo_core.specs.Finds.{IsLight}
 use Rattle.up_claims.specs.declared.kind.Kind.{Kind}
 use Rattle.up_claims.specs.declared.kind.Kind.TheVariants as kind
-use Rattle.up_unroll.specs.Unrolling.{run_query, run_queries, HasNoRunOf, IsLeastRun, IsUnrollExcess}
+use Rattle.up_claims.specs.RunQueries.{run_query, run_queries, HasNoRunOf, IsLeastRun}
+use Rattle.up_unroll.specs.Unrolling.{IsUnrollExcess}
 use Rattle.updr_top.specs.Ends.{End, printing}
 use Rattle.updr_top.specs.Reports.{report_text}
 use Rattle.updr_top.specs.declared.report.Numbers.{Numbers}

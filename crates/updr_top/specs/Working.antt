@@ -11,7 +11,8 @@ use Rattle.pv_base.specs.Reading.{IsContent}
 use Rattle.pyv_strat.specs.Refusal.{IsUnstratified}
 use Rattle.fo_min.specs.declared.found.Excess.{Excess}
 use Rattle.up_claims.specs.Breaking.{IsViolatingRunOf}
-use Rattle.up_unroll.specs.Unrolling.{HasNoRunOf, IsUnrollExcess}
+use Rattle.up_claims.specs.RunQueries.{HasNoRunOf}
+use Rattle.up_unroll.specs.Unrolling.{IsUnrollExcess}
 use Rattle.up_claims.specs.declared.kind.Kind.TheVariants.{Unroll}
 use Rattle.up_claims.specs.Claims.{properties}
 use Rattle.up_claims.specs.Inductive.{IsInductive}

@@ -18,6 +18,3 @@ pub use report::{Numbers, RunReport, Unread};
 pub use report_text::{read_report, write_report};
 pub use run::run_plain;
 pub use told::Ending;
-
-#[cfg(test)]
-mod tests;

@@ -1,4 +1,4 @@
-use Rattle.std.proofs.Common.{◌∙◌, map, sym, subst, arith}
+use Rattle.std.proofs.Common.{◌∙◌, map, subst, arith}
 use Rattle.std.specs.Prelude.{slice_index, ◌≡◌}
 use Rattle.fo_core.proofs.TupleDigits.{AreFound, digit, found-all}
 use Rattle.fo_core.proofs.tuples.tuple_at.Goals as goal

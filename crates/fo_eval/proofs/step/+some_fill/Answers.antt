@@ -1,11 +1,10 @@
-use Rattle.std.proofs.Common.{◌≡◌, ◌∙◌, ◌+◌, ◌-◌, ◌<◌, ℕ, List, [], ◌∷◌, ◌++◌, length, take, drop, sym, ap, subst, arith, rules, true, false, below_more}
+use Rattle.std.proofs.Common.{◌≡◌, ◌∙◌, ◌-◌, ◌<◌, length, take, drop, ap, arith, rules, below_more}
 use Rattle.std.proofs.lemmas.Bool.Decides.{nat_tests}
 use Rattle.std.proofs.lemmas.Grind.{common_steps}
 use Rattle.fo_eval.specs.Values.{Values}
-use Rattle.fo_eval.specs.Asked.{CanFill, SomeFill}
 use Rattle.fo_core.proofs.Answered.{false_from}
 use Rattle.fo_eval.proofs.HoldLemmas.{pushed}
-use Rattle.fo_eval.proofs.FillLemmas.{rest_of, CanFill-none, none-either, CanFill-more, CanFill-sort, some-true, some-false}
+use Rattle.fo_eval.proofs.FillLemmas.{rest_of, none-either, CanFill-more, some-true, some-false}
 use Rattle.fo_eval.proofs.step.+some_fill.Goals as goal
 
 pub returns-then-is_empty-clause-truth : goal.returns-then-is_empty-clause-truth

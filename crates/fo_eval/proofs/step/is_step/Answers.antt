@@ -1,8 +1,6 @@
-use Rattle.std.proofs.Common.{◌≡◌, ◌∙◌, ◌≤◌, ◌<◌, ℕ, List, get_or, length, subst, sym, ap, arith}
+use Rattle.std.proofs.Common.{◌∙◌, List, get_or, subst, ap}
 use Rattle.fo_core.specs.declared.system.Step.{Step}
 use Rattle.fo_core.specs.Runs.{LeadsOn}
-use Rattle.fo_eval.specs.Values.{Values}
-use Rattle.fo_eval.specs.Asked.{CanFill}
 use Rattle.fo_eval.proofs.FillLemmas.{CanJudge-at, no_step, one_more}
 use Rattle.fo_core.proofs.Answered.{false_from}
 use Rattle.std.proofs.lemmas.List.{get_or_default}

@@ -20,4 +20,4 @@ returns c =
     let first = c.at-first.ensures 0 ∙ ap (λ s. slice_index c.args.u.now.firsts s) e in
     let size = c.at-2.ensures 0 ∙ ap (λ s. slice_index c.args.lay.now.sizes s) e in
     let end = c.each.auto.q-end (omega arith) in
-    block-all c.args.u.now c.args.lay.now c.args.lay.now.sig c.args.lay.now.copies c.args.lay.now.base c.requires.ready s below (λ t v. v (same_var c.args.u.now c.args.lay.now c.args.p t) ≡ true → v (same_var c.args.u.now c.args.lay.now t c.args.r) ≡ true → v (same_var c.args.u.now c.args.lay.now c.args.p c.args.r) ≡ true) c.args.into.now.vars c.args.into.now.clauses c.at-first.result.now c.each.q c.each.into.vars c.each.into.clauses first (omega (arith, first, size, end)) c.each.invariant
+    block-all c.args.u.now c.args.lay.now c.requires.ready s below (λ t v. v (same_var c.args.u.now c.args.lay.now c.args.p t) ≡ true → v (same_var c.args.u.now c.args.lay.now t c.args.r) ≡ true → v (same_var c.args.u.now c.args.lay.now c.args.p c.args.r) ≡ true) c.args.into.now.vars c.args.into.now.clauses c.at-first.result.now c.each.q c.each.into.vars c.each.into.clauses first (omega (arith, first, size, end)) c.each.invariant

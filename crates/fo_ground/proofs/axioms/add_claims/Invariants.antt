@@ -8,5 +8,5 @@ use Rattle.fo_ground.proofs.axioms.add_claims.Given as goal
 abbrev pub invariant-each : goal.invariant-each
 invariant-each l = record {
   empty : l.env.items ≡ [];
-  added : Adds l.lay.base [] (λ v. All (λ f. IsMetBy l.u l.lay l.lay.sig f [] v) (take l.f-index l.claims)) l.fn.into.vars l.fn.into.clauses l.into.vars l.into.clauses;
+  added : Adds l.lay.base [] (λ v. All (λ f. IsMetBy l.u l.lay f [] v) (take l.f-index l.claims)) l.fn.into.vars l.fn.into.clauses l.into.vars l.into.clauses;
 }

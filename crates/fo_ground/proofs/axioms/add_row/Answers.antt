@@ -31,7 +31,7 @@ returns c =
     let of : IsOf c.args.u.now.terms (sort_at c.args.u.now.terms c.args.p) c.args.p = (c.requires.place, refl) in
     let block = (c.requires.ready.blocks s c.args.p below).0 of in
     let end = c.each.auto.r-end (omega (arith, first, size, block.1)) in
-    let later = later-all c.args.u.now c.args.lay.now c.args.lay.now.sig c.args.lay.now.copies c.args.lay.now.base c.requires.ready s below (IsBetween c.args.u.now c.args.lay.now c.args.p) c.add_fact.new.into.vars c.add_fact.new.into.clauses c.args.p c.each.r c.each.into.vars c.each.into.clauses of (omega (arith, first, size, end)) c.each.invariant.later in
+    let later = later-all c.args.u.now c.args.lay.now c.requires.ready s below (IsBetween c.args.u.now c.args.lay.now c.args.p) c.add_fact.new.into.vars c.add_fact.new.into.clauses c.args.p c.each.r c.each.into.vars c.each.into.clauses of (omega (arith, first, size, end)) c.each.invariant.later in
     adds_same c.args.lay.now.base [] (λ v. (v (same_var c.args.u.now c.args.lay.now c.args.p c.args.p) ≡ true) × ((r : ℕ) → c.args.p < r → IsOf c.args.u.now.terms (sort_at c.args.u.now.terms c.args.p) r → IsBetween c.args.u.now c.args.lay.now c.args.p r v)) (IsAlikeRow c.args.u.now c.args.lay.now c.args.p) c.args.into.now.vars c.args.into.now.clauses c.each.into.vars c.each.into.clauses
     (λ v h. record { itself = h.0; later = h.1 }) (λ v h. (h.itself, h.later))
     (adds_and c.args.lay.now.base [] (λ v. v (same_var c.args.u.now c.args.lay.now c.args.p c.args.p) ≡ true) (λ v. (r : ℕ) → c.args.p < r → IsOf c.args.u.now.terms (sort_at c.args.u.now.terms c.args.p) r → IsBetween c.args.u.now c.args.lay.now c.args.p r v) c.args.into.now.vars c.args.into.now.clauses c.add_fact.new.into.vars c.add_fact.new.into.clauses c.each.into.vars c.each.into.clauses

@@ -7,4 +7,4 @@ use Rattle.fo_ground.proofs.classes.all_heads.Given as goal
 
 -- the sorts before this one have their first terms
 abbrev pub invariant-each : goal.invariant-each
-invariant-each l = l.all.items ≡ map (heads_of l.u.terms (slot l.u l.lay l.lay.sig) (same_by l.u l.lay l.lay.sig (value_of l.values)) (fact_by l.u l.lay l.lay.sig (value_of l.values))) (range_with_len 0 l.sort)
+invariant-each l = l.all.items ≡ map (heads_of l.u.terms (slot l.u l.lay) (same_by l.u l.lay (value_of l.values)) (fact_by l.u l.lay (value_of l.values))) (range_with_len 0 l.sort)

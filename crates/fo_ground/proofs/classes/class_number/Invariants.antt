@@ -5,4 +5,4 @@ use Rattle.fo_ground.proofs.classes.class_number.Given as goal
 
 -- the first terms before this one are of other classes
 abbrev pub invariant-each : goal.invariant-each
-invariant-each l = (k : ℕ) → k < l.i → same_by l.u l.lay l.lay.sig (value_of l.values) (get_or l.heads k 0) l.p ≡ false
+invariant-each l = (k : ℕ) → k < l.i → same_by l.u l.lay (value_of l.values) (get_or l.heads k 0) l.p ≡ false

@@ -9,6 +9,6 @@ use Rattle.fo_ground.proofs.classes.heads.Given as goal
 -- the terms before this one have their first terms
 abbrev pub invariant-each : goal.invariant-each
 invariant-each l = record {
-  built : l.heads.items ≡ heads_before l.u.terms (slot l.u l.lay l.lay.sig) (same_by l.u l.lay l.lay.sig (value_of l.values)) (fact_by l.u l.lay l.lay.sig (value_of l.values)) l.sort l.p;
+  built : l.heads.items ≡ heads_before l.u.terms (slot l.u l.lay) (same_by l.u l.lay (value_of l.values)) (fact_by l.u l.lay (value_of l.values)) l.sort l.p;
   sorted : All (IsOf l.u.terms l.sort) l.heads.items;
 }

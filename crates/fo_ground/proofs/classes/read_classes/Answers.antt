@@ -14,7 +14,7 @@ use Rattle.fo_ground.proofs.classes.read_classes.Goals as goal
 pub at-requires-in-each : goal.at-requires-in-each
 at-requires-in-each c =
     let lt = c.requires.ready.sorts c.each.p (omega (arith, c.each-test.true, c.len-p-end.ensures)) in
-    let len = length-map-range_with_len (heads_of c.args.u.now.terms (slot c.args.u.now c.args.lay.now c.args.lay.now.sig) (same_by c.args.u.now c.args.lay.now c.args.lay.now.sig (value_of c.args.values.now)) (fact_by c.args.u.now c.args.lay.now c.args.lay.now.sig (value_of c.args.values.now))) 0 c.args.lay.now.sig.sorts in
+    let len = length-map-range_with_len (heads_of c.args.u.now.terms (slot c.args.u.now c.args.lay.now) (same_by c.args.u.now c.args.lay.now (value_of c.args.values.now)) (fact_by c.args.u.now c.args.lay.now (value_of c.args.values.now))) 0 c.args.lay.now.sig.sorts in
     rw (c.in_ok-heads.ensures, c.at.ensures no_ground) (omega (arith, lt, len))
 
 pub class_number-requires-clause-sorted : goal.class_number-requires-clause-sorted
@@ -22,35 +22,35 @@ class_number-requires-clause-sorted c =
     let in_ : c.each.p < length c.args.u.now.terms = omega (arith, c.each-test.true, c.len-p-end.ensures) in
     let s = sort_at c.args.u.now.terms c.each.p in
     let lt = c.requires.ready.sorts c.each.p in_ in
-    let here = get_or-map-range_with_len (heads_of c.args.u.now.terms (slot c.args.u.now c.args.lay.now c.args.lay.now.sig) (same_by c.args.u.now c.args.lay.now c.args.lay.now.sig (value_of c.args.values.now)) (fact_by c.args.u.now c.args.lay.now c.args.lay.now.sig (value_of c.args.values.now))) 0 c.args.lay.now.sig.sorts s s [] lt (omega arith) in
+    let here = get_or-map-range_with_len (heads_of c.args.u.now.terms (slot c.args.u.now c.args.lay.now) (same_by c.args.u.now c.args.lay.now (value_of c.args.values.now)) (fact_by c.args.u.now c.args.lay.now (value_of c.args.values.now))) 0 c.args.lay.now.sig.sorts s s [] lt (omega arith) in
     let sort : c.at.result.now.sort ≡ sort_at c.args.u.now.terms c.each.p = ap (λ (g : Ground). g.sort) (c.at.ensures no_ground) in
-    let is : c.as_slice-of_sort.result.now ≡ heads_of c.args.u.now.terms (slot c.args.u.now c.args.lay.now c.args.lay.now.sig) (same_by c.args.u.now c.args.lay.now c.args.lay.now.sig (value_of c.args.values.now)) (fact_by c.args.u.now c.args.lay.now c.args.lay.now.sig (value_of c.args.values.now)) (sort_at c.args.u.now.terms c.each.p) =
+    let is : c.as_slice-of_sort.result.now ≡ heads_of c.args.u.now.terms (slot c.args.u.now c.args.lay.now) (same_by c.args.u.now c.args.lay.now (value_of c.args.values.now)) (fact_by c.args.u.now c.args.lay.now (value_of c.args.values.now)) (sort_at c.args.u.now.terms c.each.p) =
     c.as_slice-of_sort.ensures ∙ c.at-in-each.ensures [] ∙ ap (λ n. get_or c.in_ok-heads.heads n []) sort ∙ ap (λ (hs : List (List ℕ)). get_or hs (sort_at c.args.u.now.terms c.each.p) []) c.in_ok-heads.ensures ∙ here in
-    (s, subst (All (IsOf c.args.u.now.terms s)) (sym is) (heads-sorted c.args.u.now.terms (slot c.args.u.now c.args.lay.now c.args.lay.now.sig) (same_by c.args.u.now c.args.lay.now c.args.lay.now.sig (value_of c.args.values.now)) (fact_by c.args.u.now c.args.lay.now c.args.lay.now.sig (value_of c.args.values.now)) s (length c.args.u.now.terms) (omega arith)), (in_, refl))
+    (s, subst (All (IsOf c.args.u.now.terms s)) (sym is) (heads-sorted c.args.u.now.terms (slot c.args.u.now c.args.lay.now) (same_by c.args.u.now c.args.lay.now (value_of c.args.values.now)) (fact_by c.args.u.now c.args.lay.now (value_of c.args.values.now)) s (length c.args.u.now.terms) (omega arith)), (in_, refl))
 
 pub overflow_cast-class_number : goal.overflow_cast-class_number
 overflow_cast-class_number c =
     let in_ : c.each.p < length c.args.u.now.terms = omega (arith, c.each-test.true, c.len-p-end.ensures) in
     let s = sort_at c.args.u.now.terms c.each.p in
     let lt = c.requires.ready.sorts c.each.p in_ in
-    let here = get_or-map-range_with_len (heads_of c.args.u.now.terms (slot c.args.u.now c.args.lay.now c.args.lay.now.sig) (same_by c.args.u.now c.args.lay.now c.args.lay.now.sig (value_of c.args.values.now)) (fact_by c.args.u.now c.args.lay.now c.args.lay.now.sig (value_of c.args.values.now))) 0 c.args.lay.now.sig.sorts s s [] lt (omega arith) in
+    let here = get_or-map-range_with_len (heads_of c.args.u.now.terms (slot c.args.u.now c.args.lay.now) (same_by c.args.u.now c.args.lay.now (value_of c.args.values.now)) (fact_by c.args.u.now c.args.lay.now (value_of c.args.values.now))) 0 c.args.lay.now.sig.sorts s s [] lt (omega arith) in
     let sort : c.at.result.now.sort ≡ sort_at c.args.u.now.terms c.each.p = ap (λ (g : Ground). g.sort) (c.at.ensures no_ground) in
-    let is : c.as_slice-of_sort.result.now ≡ heads_of c.args.u.now.terms (slot c.args.u.now c.args.lay.now c.args.lay.now.sig) (same_by c.args.u.now c.args.lay.now c.args.lay.now.sig (value_of c.args.values.now)) (fact_by c.args.u.now c.args.lay.now c.args.lay.now.sig (value_of c.args.values.now)) (sort_at c.args.u.now.terms c.each.p) =
+    let is : c.as_slice-of_sort.result.now ≡ heads_of c.args.u.now.terms (slot c.args.u.now c.args.lay.now) (same_by c.args.u.now c.args.lay.now (value_of c.args.values.now)) (fact_by c.args.u.now c.args.lay.now (value_of c.args.values.now)) (sort_at c.args.u.now.terms c.each.p) =
     c.as_slice-of_sort.ensures ∙ c.at-in-each.ensures [] ∙ ap (λ n. get_or c.in_ok-heads.heads n []) sort ∙ ap (λ (hs : List (List ℕ)). get_or hs (sort_at c.args.u.now.terms c.each.p) []) c.in_ok-heads.ensures ∙ here in
-    let le = position-le (λ (q : ℕ). same_by c.args.u.now c.args.lay.now c.args.lay.now.sig (value_of c.args.values.now) q c.each.p) c.as_slice-of_sort.result.now in
-    omega (arith, c.class_number.ensures, le, ap length is, heads-few c.args.u.now.terms (slot c.args.u.now c.args.lay.now c.args.lay.now.sig) (same_by c.args.u.now c.args.lay.now c.args.lay.now.sig (value_of c.args.values.now)) (fact_by c.args.u.now c.args.lay.now c.args.lay.now.sig (value_of c.args.values.now)) s (length c.args.u.now.terms), c.requires.ready.few_terms)
+    let le = position-le (λ (q : ℕ). same_by c.args.u.now c.args.lay.now (value_of c.args.values.now) q c.each.p) c.as_slice-of_sort.result.now in
+    omega (arith, c.class_number.ensures, le, ap length is, heads-few c.args.u.now.terms (slot c.args.u.now c.args.lay.now) (same_by c.args.u.now c.args.lay.now (value_of c.args.values.now)) (fact_by c.args.u.now c.args.lay.now (value_of c.args.values.now)) s (length c.args.u.now.terms), c.requires.ready.few_terms)
 
 pub each-preserved : goal.each-preserved
 each-preserved c =
     let in_ : c.each.p < length c.args.u.now.terms = omega (arith, c.each-test.true, c.len-p-end.ensures) in
     let s = sort_at c.args.u.now.terms c.each.p in
     let lt = c.requires.ready.sorts c.each.p in_ in
-    let here = get_or-map-range_with_len (heads_of c.args.u.now.terms (slot c.args.u.now c.args.lay.now c.args.lay.now.sig) (same_by c.args.u.now c.args.lay.now c.args.lay.now.sig (value_of c.args.values.now)) (fact_by c.args.u.now c.args.lay.now c.args.lay.now.sig (value_of c.args.values.now))) 0 c.args.lay.now.sig.sorts s s [] lt (omega arith) in
+    let here = get_or-map-range_with_len (heads_of c.args.u.now.terms (slot c.args.u.now c.args.lay.now) (same_by c.args.u.now c.args.lay.now (value_of c.args.values.now)) (fact_by c.args.u.now c.args.lay.now (value_of c.args.values.now))) 0 c.args.lay.now.sig.sorts s s [] lt (omega arith) in
     let sort : c.at.result.now.sort ≡ sort_at c.args.u.now.terms c.each.p = ap (λ (g : Ground). g.sort) (c.at.ensures no_ground) in
-    let is : c.as_slice-of_sort.result.now ≡ heads_of c.args.u.now.terms (slot c.args.u.now c.args.lay.now c.args.lay.now.sig) (same_by c.args.u.now c.args.lay.now c.args.lay.now.sig (value_of c.args.values.now)) (fact_by c.args.u.now c.args.lay.now c.args.lay.now.sig (value_of c.args.values.now)) (sort_at c.args.u.now.terms c.each.p) =
+    let is : c.as_slice-of_sort.result.now ≡ heads_of c.args.u.now.terms (slot c.args.u.now c.args.lay.now) (same_by c.args.u.now c.args.lay.now (value_of c.args.values.now)) (fact_by c.args.u.now c.args.lay.now (value_of c.args.values.now)) (sort_at c.args.u.now.terms c.each.p) =
     c.as_slice-of_sort.ensures ∙ c.at-in-each.ensures [] ∙ ap (λ n. get_or c.in_ok-heads.heads n []) sort ∙ ap (λ (hs : List (List ℕ)). get_or hs (sort_at c.args.u.now.terms c.each.p) []) c.in_ok-heads.ensures ∙ here in
-    let number : c.class_number.result ≡ class_of c.args.u.now.terms (slot c.args.u.now c.args.lay.now c.args.lay.now.sig) (same_by c.args.u.now c.args.lay.now c.args.lay.now.sig (value_of c.args.values.now)) (fact_by c.args.u.now c.args.lay.now c.args.lay.now.sig (value_of c.args.values.now)) c.each.p = c.class_number.ensures ∙ ap (position_or_len (λ (q : ℕ). same_by c.args.u.now c.args.lay.now c.args.lay.now.sig (value_of c.args.values.now) q c.each.p)) is in
-    rw (c.in_ok-push.ensures.items, c.each.invariant, number) (sym (map-range_with_len_more (class_of c.args.u.now.terms (slot c.args.u.now c.args.lay.now c.args.lay.now.sig) (same_by c.args.u.now c.args.lay.now c.args.lay.now.sig (value_of c.args.values.now)) (fact_by c.args.u.now c.args.lay.now c.args.lay.now.sig (value_of c.args.values.now))) 0 c.each.p c.each.p (omega arith)))
+    let number : c.class_number.result ≡ class_of c.args.u.now.terms (slot c.args.u.now c.args.lay.now) (same_by c.args.u.now c.args.lay.now (value_of c.args.values.now)) (fact_by c.args.u.now c.args.lay.now (value_of c.args.values.now)) c.each.p = c.class_number.ensures ∙ ap (position_or_len (λ (q : ℕ). same_by c.args.u.now c.args.lay.now (value_of c.args.values.now) q c.each.p)) is in
+    rw (c.in_ok-push.ensures.items, c.each.invariant, number) (sym (map-range_with_len_more (class_of c.args.u.now.terms (slot c.args.u.now c.args.lay.now) (same_by c.args.u.now c.args.lay.now (value_of c.args.values.now)) (fact_by c.args.u.now c.args.lay.now (value_of c.args.values.now))) 0 c.each.p c.each.p (omega arith)))
 
 pub sizes-requires-clause-few : goal.sizes-requires-clause-few
 sizes-requires-clause-few c =

@@ -7,4 +7,4 @@ use Rattle.fo_ground.proofs.classes.read_classes.Given as goal
 
 -- the terms before this one have their classes' numbers
 abbrev pub invariant-each : goal.invariant-each
-invariant-each l = l.numbers.items ≡ map (class_of l.u.terms (slot l.u l.lay l.lay.sig) (same_by l.u l.lay l.lay.sig (value_of l.values)) (fact_by l.u l.lay l.lay.sig (value_of l.values))) (range_with_len 0 l.p)
+invariant-each l = l.numbers.items ≡ map (class_of l.u.terms (slot l.u l.lay) (same_by l.u l.lay (value_of l.values)) (fact_by l.u l.lay (value_of l.values))) (range_with_len 0 l.p)

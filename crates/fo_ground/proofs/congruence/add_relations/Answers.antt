@@ -45,7 +45,7 @@ returns c =
     adds_same c.args.lay.now.base [] (λ v. (t : ℕ) → 0 ≤ t → t < c.each.atom-index → IsChangedAtom c.args.u.now c.args.lay.now (get_or c.args.atoms.now t Helper) v) (AreChangedFacts c.args.u.now c.args.lay.now) c.args.into.now.vars c.args.into.now.clauses c.each.into.vars c.each.into.clauses
     (λ v h r k ps is of.
     let lt = c.requires.ready.facts r k ps is of in
-    let x = h (slot c.args.u.now c.args.lay.now c.args.lay.now.sig r k ps) (omega arith) (omega (arith, lt, c.requires.long)) in
+    let x = h (slot c.args.u.now c.args.lay.now r k ps) (omega arith) (omega (arith, lt, c.requires.long)) in
     subst (λ a. IsChangedAtom c.args.u.now c.args.lay.now a v) (c.requires.listed.facts r k ps is of) x)
     (λ v h t ge lt. changed-shaped c.args.u.now c.args.lay.now (get_or c.args.atoms.now t Helper) v (c.requires.shaped t Helper (omega arith)) h)
     c.each.invariant

@@ -6,13 +6,13 @@ use Rattle.fo_ground.proofs.emit.literal.Goals as goal
 
 pub atom-requires-clause-instance : goal.atom-requires-clause-instance
 atom-requires-clause-instance c =
-    let h = subst (HasInstance c.args.u.now c.args.lay.now c.args.lay.now.sig c.args.lay.now.copies c.args.env.now) c.in-Not.is c.requires.instance in
-    rw c.get.ensures (instance-Not c.args.u.now c.args.lay.now c.args.lay.now.sig c.args.lay.now.copies c.args.lay.now.base c.args.env.now c.in-Not.g h)
+    let h = subst (HasInstance c.args.u.now c.args.lay.now c.args.env.now) c.in-Not.is c.requires.instance in
+    rw c.get.ensures (instance-Not c.args.u.now c.args.lay.now c.args.env.now c.in-Not.g h)
 
 pub returns-in-Some : goal.returns-in-Some
 returns-in-Some c =
     let h = rw c.in-Some.is at c.in_ok-var-in-Not.ensures in
-    rw (c.in-Not.is, ← c.get.ensures) (literal-Not c.args.u.now c.args.lay.now c.args.lay.now.sig c.args.lay.now.copies c.args.lay.now.base c.args.env.now c.get.result.now c.in-Some.var h)
+    rw (c.in-Not.is, ← c.get.ensures) (literal-Not c.args.u.now c.args.lay.now c.args.env.now c.get.result.now c.in-Some.var h)
 
 pub returns-in-None : goal.returns-in-None
 returns-in-None c =

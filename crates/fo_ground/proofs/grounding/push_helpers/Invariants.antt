@@ -1,10 +1,11 @@
-use Rattle.std.proofs.Common.{◌≡◌, ◌++◌, List, length}
-use Rattle.fo_ground.specs.declared.grounded.Atom.{Atom}
+use Rattle.std.proofs.Common.{◌≡◌, ◌++◌, ℕ, length}
+use Rattle.std.specs.Prelude.{replicate}
+use Rattle.fo_ground.specs.declared.grounded.Atom.TheVariants.{Helper}
 use Rattle.fo_ground.proofs.grounding.push_helpers.Given as goal
 
--- as many atoms as were counted, the old ones first
+-- as many atoms as were counted, the old ones first and then helpers
 abbrev pub invariant-each : goal.invariant-each
 invariant-each l = record {
   length : length l.atoms.items ≡ l._place;
-  behind : (helpers : List Atom) × (l.atoms.items ≡ l.fn.atoms.items ++ helpers);
+  helpers : (n : ℕ) × (l.atoms.items ≡ l.fn.atoms.items ++ replicate n Helper);
 }

@@ -28,9 +28,9 @@ each-preserved c =
       | else-symbol+in_ok-push-2 w ↦
           let is = sym er ∙ w.if-symbol.false in
           let here : symbol_start c.args.sig.now c.args.copies c.args.u.now c.each.k ≡ term_start c.args.sig.now c.args.copies c.args.u.now c.each.k = ap (λ b. cond b (fact_start c.args.sig.now c.args.copies c.args.u.now c.each.k) (term_start c.args.sig.now c.args.copies c.args.u.now c.each.k)) is in
-          let place = c.requires.places.starts c.each.k lt is in
+          let place = c.requires.term_starts c.each.k lt is in
           record {
-            starts = rw (w.starts-is, w.in_ok-push-2.ensures.items, c.each.invariant.starts, w.at.ensures 0, place) (ap (λ x. map (symbol_start c.args.sig.now c.args.copies c.args.u.now) (range_with_len 0 c.each.k) ++ x ∷ []) (sym here) ∙ sym more);
+            starts = rw (w.starts-is, w.in_ok-push-2.ensures.items, c.each.invariant.starts, place) (ap (λ x. map (symbol_start c.args.sig.now c.args.copies c.args.u.now) (range_with_len 0 c.each.k) ++ x ∷ []) (sym here) ∙ sym more);
             end = rw w.end-is (c.each.invariant.end ∙ sym (fact_start-function c.args.sig.now c.args.copies c.args.u.now c.each.k lt is));
           }
     ]

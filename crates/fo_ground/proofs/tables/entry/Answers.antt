@@ -22,7 +22,7 @@ returns-then-not-at c =
     let kind : (symbol_at c.args.lay.now.sig c.args.symbol).relation ≡ false = sym (ap (λ (s : Symbol). s.relation) (c.at.ensures no_symbol)) ∙ c.if-not-at.true in
     let is : IsSymbol c.args.lay.now.sig c.args.lay.now.copies false c.args.symbol c.args.copy = record { within = c.requires.symbol; kind = kind; copy = c.requires.copy } in
     let lt = (c.requires.ready.places c.args.symbol c.args.copy c.args.args.now is c.requires.args).0 in
-    let p = slot c.args.u.now c.args.lay.now c.args.lay.now.sig c.args.symbol c.args.copy c.args.args.now in
+    let p = slot c.args.u.now c.args.lay.now c.args.symbol c.args.copy c.args.args.now in
     c.at-then-not-at.ensures 0
     ∙ ap (λ xs. get_or xs c.slot-at.result 0) c.requires.read.numbers
     ∙ get_or-map-range_with_len (class_by c.args.u.now c.args.lay.now (value_of c.args.values.now)) 0 (length c.args.u.now.terms) c.slot-at.result c.slot-at.result 0 (omega (arith, c.slot-at.ensures, lt)) (omega arith)

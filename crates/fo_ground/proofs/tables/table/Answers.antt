@@ -45,7 +45,7 @@ entry-entry-requires-clause-args c =
     (let h : c.in-Some.tuples ≡ 1 * power c.as_slice.result.now c.as_slice-sorts.result.now = c.in-Some.ensures in omega (arith, h))
     ∙ ap (λ ns. power ns c.as_slice-sorts.result.now) c.as_slice.ensures ∙ ap (power c.args.classes.now.sizes) sorts ∙ ap tuples sizes in
     let below = tuple-below (map (count_by c.args.u.now c.args.lay.now (value_of c.args.values.now)) (symbol_at c.args.lay.now.sig c.args.symbol).args) c.each.number (subst (λ n. c.each.number < n) count c.each-test.true) in
-    let heads : c.in_ok-heads.heads.items ≡ heads_at c.args.u.now.terms (slot c.args.u.now c.args.lay.now c.args.lay.now.sig) (same_by c.args.u.now c.args.lay.now c.args.lay.now.sig (value_of c.args.values.now)) (fact_by c.args.u.now c.args.lay.now c.args.lay.now.sig (value_of c.args.values.now)) (symbol_at c.args.lay.now.sig c.args.symbol).args xs =
+    let heads : c.in_ok-heads.heads.items ≡ heads_at c.args.u.now.terms (slot c.args.u.now c.args.lay.now) (same_by c.args.u.now c.args.lay.now (value_of c.args.values.now)) (fact_by c.args.u.now c.args.lay.now (value_of c.args.values.now)) (symbol_at c.args.lay.now.sig c.args.symbol).args xs =
     c.in_ok-heads.ensures ∙ ap (λ zs. picked c.args.classes.now.heads zs (tuple_at (map (slice_index c.args.classes.now.sizes) zs) c.each.number)) sorts
     ∙ ap (λ ns. picked c.args.classes.now.heads (symbol_at c.args.lay.now.sig c.args.symbol).args (tuple_at ns c.each.number)) sizes ∙ picked-are c.args.u.now c.args.lay.now (value_of c.args.values.now) c.args.classes.now c.requires.read (symbol_at c.args.lay.now.sig c.args.symbol).args xs has.args in
     rw (c.as_slice-in-each.ensures.value, heads) (heads_at-sorted c.args.u.now c.args.lay.now (value_of c.args.values.now) (symbol_at c.args.lay.now.sig c.args.symbol).args xs below)
@@ -61,7 +61,7 @@ each-preserved c =
     (let h : c.in-Some.tuples ≡ 1 * power c.as_slice.result.now c.as_slice-sorts.result.now = c.in-Some.ensures in omega (arith, h))
     ∙ ap (λ ns. power ns c.as_slice-sorts.result.now) c.as_slice.ensures ∙ ap (power c.args.classes.now.sizes) sorts ∙ ap tuples sizes in
     let below = tuple-below (map (count_by c.args.u.now c.args.lay.now (value_of c.args.values.now)) (symbol_at c.args.lay.now.sig c.args.symbol).args) c.each.number (subst (λ n. c.each.number < n) count c.each-test.true) in
-    let heads : c.in_ok-heads.heads.items ≡ heads_at c.args.u.now.terms (slot c.args.u.now c.args.lay.now c.args.lay.now.sig) (same_by c.args.u.now c.args.lay.now c.args.lay.now.sig (value_of c.args.values.now)) (fact_by c.args.u.now c.args.lay.now c.args.lay.now.sig (value_of c.args.values.now)) (symbol_at c.args.lay.now.sig c.args.symbol).args xs =
+    let heads : c.in_ok-heads.heads.items ≡ heads_at c.args.u.now.terms (slot c.args.u.now c.args.lay.now) (same_by c.args.u.now c.args.lay.now (value_of c.args.values.now)) (fact_by c.args.u.now c.args.lay.now (value_of c.args.values.now)) (symbol_at c.args.lay.now.sig c.args.symbol).args xs =
     c.in_ok-heads.ensures ∙ ap (λ zs. picked c.args.classes.now.heads zs (tuple_at (map (slice_index c.args.classes.now.sizes) zs) c.each.number)) sorts
     ∙ ap (λ ns. picked c.args.classes.now.heads (symbol_at c.args.lay.now.sig c.args.symbol).args (tuple_at ns c.each.number)) sizes ∙ picked-are c.args.u.now c.args.lay.now (value_of c.args.values.now) c.args.classes.now c.requires.read (symbol_at c.args.lay.now.sig c.args.symbol).args xs has.args in
     let value : c.entry-entry.result ≡ value_by c.args.u.now c.args.lay.now (value_of c.args.values.now) c.args.copy c.args.symbol c.each.number = c.entry-entry.ensures ∙ ap (entry_by c.args.u.now c.args.lay.now (value_of c.args.values.now) c.args.symbol c.args.copy) (c.as_slice-in-each.ensures.value ∙ heads) in

@@ -4,26 +4,23 @@ use Rattle.std.proofs.lemmas.List.FromFn.{map-range_with_len_more, length-map-ra
 use Rattle.fo_core.specs.declared.signature.Symbol.{Symbol}
 use Rattle.prop_core.specs.Formula.{value_of}
 use Rattle.fo_ground.specs.Reading.{tables_by}
-use Rattle.fo_ground.proofs.GroundLemmas.{few, laid-out, own-signature, read-world}
+use Rattle.fo_ground.proofs.GroundLemmas.{laid-out, own-signature, read-world}
 use Rattle.fo_ground.proofs.world.world_of.Goals as goal
 
-pub lay_out-requires-clause-few : goal.lay_out-requires-clause-few
-lay_out-requires-clause-few c = few c.args.sig.now c.args.form.now c.args.u.now c.requires.sig c.requires.form c.requires.universe c.requires.arranged c.requires.light
-
 pub read_classes-requires-clause-ready : goal.read_classes-requires-clause-ready
-read_classes-requires-clause-ready c = laid-out c.args.sig.now c.args.form.now c.args.u.now c.requires.sig c.requires.form c.requires.universe c.requires.arranged c.requires.light c.in_ok-lay.lay c.in_ok-lay.ensures.layout c.in_ok-lay.ensures.small
+read_classes-requires-clause-ready c = laid-out c.args.sig.now c.args.form.now c.args.u.now c.requires.ready c.in_ok-lay.lay c.in_ok-lay.ensures.layout c.in_ok-lay.ensures.small
 
 pub tables-requires-clause-ready : goal.tables-requires-clause-ready
-tables-requires-clause-ready c = laid-out c.args.sig.now c.args.form.now c.args.u.now c.requires.sig c.requires.form c.requires.universe c.requires.arranged c.requires.light c.in_ok-lay.lay c.in_ok-lay.ensures.layout c.in_ok-lay.ensures.small
+tables-requires-clause-ready c = laid-out c.args.sig.now c.args.form.now c.args.u.now c.requires.ready c.in_ok-lay.lay c.in_ok-lay.ensures.layout c.in_ok-lay.ensures.small
 
 pub tables-requires-clause-sig : goal.tables-requires-clause-sig
-tables-requires-clause-sig c = own-signature c.args.sig.now c.args.form.now c.args.u.now c.requires.sig c.requires.form c.requires.universe c.requires.arranged c.requires.light c.in_ok-lay.lay c.in_ok-lay.ensures.layout
+tables-requires-clause-sig c = own-signature c.args.sig.now c.args.form.now c.args.u.now c.requires.ready c.in_ok-lay.lay c.in_ok-lay.ensures.layout
 
 pub tables-requires-in-each-clause-ready : goal.tables-requires-in-each-clause-ready
-tables-requires-in-each-clause-ready c = laid-out c.args.sig.now c.args.form.now c.args.u.now c.requires.sig c.requires.form c.requires.universe c.requires.arranged c.requires.light c.in_ok-lay.lay c.in_ok-lay.ensures.layout c.in_ok-lay.ensures.small
+tables-requires-in-each-clause-ready c = laid-out c.args.sig.now c.args.form.now c.args.u.now c.requires.ready c.in_ok-lay.lay c.in_ok-lay.ensures.layout c.in_ok-lay.ensures.small
 
 pub tables-requires-in-each-clause-sig : goal.tables-requires-in-each-clause-sig
-tables-requires-in-each-clause-sig c = own-signature c.args.sig.now c.args.form.now c.args.u.now c.requires.sig c.requires.form c.requires.universe c.requires.arranged c.requires.light c.in_ok-lay.lay c.in_ok-lay.ensures.layout
+tables-requires-in-each-clause-sig c = own-signature c.args.sig.now c.args.form.now c.args.u.now c.requires.ready c.in_ok-lay.lay c.in_ok-lay.ensures.layout
 
 pub each-preserved : goal.each-preserved
 each-preserved c = rw (c.in_ok-push.ensures.items, c.each.invariant, c.in_ok-tables.ensures) (sym (map-range_with_len_more (λ (k : ℕ). tables_by c.args.u.now c.in_ok-lay.lay (value_of c.args.values.now) true k 0 c.as_slice-symbols.result.now) 0 c.each.copy c.each.copy (omega arith)))
@@ -33,7 +30,7 @@ returns-clause-meets c =
     let n : c.each.copy ≡ c.args.form.now.copies = omega arith in
     let copies : c.from_vec.result ≡ map (λ (k : ℕ). tables_by c.args.u.now c.in_ok-lay.lay (value_of c.args.values.now) true k 0 c.args.sig.now.symbols) (range_with_len 0 c.args.form.now.copies) =
     c.from_vec.ensures ∙ c.each.invariant ∙ ap (λ (ss : List Symbol). map (λ (k : ℕ). tables_by c.args.u.now c.in_ok-lay.lay (value_of c.args.values.now) true k 0 ss) (range_with_len 0 c.each.copy)) c.as_slice-symbols.ensures ∙ ap (λ m. map (λ (k : ℕ). tables_by c.args.u.now c.in_ok-lay.lay (value_of c.args.values.now) true k 0 c.args.sig.now.symbols) (range_with_len 0 m)) n in
-    read-world c.args.sig.now c.args.form.now c.args.u.now c.requires.sig c.requires.form c.requires.universe c.requires.arranged c.requires.light c.args.g.now c.requires.grounded c.in_ok-lay.lay c.in_ok-lay.ensures.layout (value_of c.args.values.now) c.requires.met (record { sizes = c.in_ok-classes.classes.sizes; fixed = c.in_ok-fixed.fixed; copies = c.from_vec.result })
+    read-world c.args.sig.now c.args.form.now c.args.u.now c.requires.ready c.in_ok-lay.lay c.in_ok-lay.ensures.layout (value_of c.args.values.now) c.requires.met (record { sizes = c.in_ok-classes.classes.sizes; fixed = c.in_ok-fixed.fixed; copies = c.from_vec.result })
     c.in_ok-classes.ensures.sizes (c.in_ok-fixed.ensures ∙ ap (λ (ss : List Symbol). tables_by c.args.u.now c.in_ok-lay.lay (value_of c.args.values.now) false 0 0 ss) c.as_slice-symbols.ensures) copies
 
 pub returns-clause-copies : goal.returns-clause-copies

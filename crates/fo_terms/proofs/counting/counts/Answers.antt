@@ -1,5 +1,5 @@
 use Rattle.std.proofs.Common.{◌≡◌, [], length, get_or, sym, ap, subst, ◌∙◌, arith, length-set}
-use Rattle.fo_core.specs.Skolems.{extended}
+use Rattle.fo_norm.specs.Forms.{whole}
 use Rattle.fo_terms.specs.Blocks.{IsRanking}
 use Rattle.fo_core.specs.TermCounts.{count_over}
 use Rattle.fo_core.specs.QueryWeight.{cut}
@@ -10,7 +10,7 @@ use Rattle.fo_terms.proofs.counting.counts.Goals as goal
 
 pub returns-clause-equations : goal.returns-clause-equations
 returns-clause-equations c =
-    let S = extended c.args.sig.now c.args.form.now.skolems in
+    let S = whole c.args.sig.now c.args.form.now in
     counts-solve S c.args.form.now.copies c.args.order.now.numbers c.requires.order (whole_sorts c.args.sig.now c.args.form.now c.requires.sig c.requires.form)
 
 pub at-requires : goal.at-requires
@@ -39,7 +39,7 @@ pub each-preserved : goal.each-preserved
 each-preserved c =
     let sig = c.args.sig.now in
     let form = c.args.form.now in
-    let S = extended sig form.skolems in
+    let S = whole sig form in
     let sorted = whole_sorts sig form c.requires.sig c.requires.form in
     let numbers = c.args.order.now.numbers in
     let ranked = c.deref-sort-items.result.now in
@@ -54,7 +54,7 @@ pub returns-clause-counts : goal.returns-clause-counts
 returns-clause-counts c =
     let sig = c.args.sig.now in
     let form = c.args.form.now in
-    let S = extended sig form.skolems in
+    let S = whole sig form in
     let sorted = whole_sorts sig form c.requires.sig c.requires.form in
     let numbers = c.args.order.now.numbers in
     let ranked = c.deref-sort-items.result.now in

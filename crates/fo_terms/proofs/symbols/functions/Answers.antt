@@ -2,14 +2,14 @@ use Rattle.std.proofs.Common.{ℕ, [], ◌∷◌, ◌++◌, cond, List, sym, ap,
 use Rattle.std.specs.List.{filter, range_with_len}
 use Rattle.fo_core.specs.declared.signature.Symbol.{Symbol}
 use Rattle.fo_core.specs.Tables.{symbol_at}
-use Rattle.fo_core.specs.Skolems.{extended}
+use Rattle.fo_norm.specs.Forms.{whole}
 use Rattle.fo_core.specs.TermCounts.{leads_to}
 use Rattle.fo_terms.proofs.Functions.{numbers-more}
 use Rattle.fo_terms.proofs.symbols.functions.Goals as goal
 
 pub each-preserved : goal.each-preserved
 each-preserved c =
-    let S = extended c.args.sig.now c.args.form.now.skolems in
+    let S = whole c.args.sig.now c.args.form.now in
     let n = c.each.number in
     record {
       all = c.each.invariant.all;

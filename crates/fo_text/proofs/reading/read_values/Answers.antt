@@ -7,12 +7,12 @@ use Rattle.fo_text.proofs.reading.read_values.Goals as goal
 pub returns-in_err-value : goal.returns-in_err-value
 returns-in_err-value c =
     let p = err_from_is_err_and c.from_residual.result c.from_residual.ensures.1 in
-    let k = values_step c.args.entries c.each.i c.args.most c.ending.result c.each.rest.now c.each-test.true c.ending.ensures in
+    let k = values_step c.args.entries c.each.i c.args.most c.ending.result c.each.rest.now c.each-test.true c.ending.ensures.is in
     rw (p.1, p.2) (list_ends c.in_err-value.field-0.0 c.each.values (number_at 0 c.args.most c.ending.result c.each.rest.now) (λ l. values_at (c.args.entries - (c.each.i + 1)) c.args.most l) (values_at (c.args.entries - c.each.i) c.args.most c.each.rest.now) (values_at c.args.entries c.args.most c.args.bytes.now) k c.in_err-value.ensures c.each.invariant)
 
 pub each-preserved : goal.each-preserved
 each-preserved c =
-    let k = values_step c.args.entries c.each.i c.args.most c.ending.result c.each.rest.now c.each-test.true c.ending.ensures in
+    let k = values_step c.args.entries c.each.i c.args.most c.ending.result c.each.rest.now c.each-test.true c.ending.ensures.is in
     rw c.in_ok-push.ensures.ok (list_step c.each.values (number_at 0 c.args.most c.ending.result c.each.rest.now) (λ l. values_at (c.args.entries - (c.each.i + 1)) c.args.most l) c.in_ok-value.value c.in_ok-value.after.now (values_at (c.args.entries - c.each.i) c.args.most c.each.rest.now) (values_at c.args.entries c.args.most c.args.bytes.now) k c.in_ok-value.ensures c.each.invariant)
 
 pub returns : goal.returns

@@ -25,13 +25,18 @@ pub loop-refuted-preserved-then-branch : goal.loop-refuted-preserved-then-branch
 loop-refuted-preserved-then-branch c =
     offered_step _ _ _ _ _ c.loop-refuted.invariant _ _ _ c.if-refuted.false c.as_slice-else-refuted.ensures.value c.in_ok-offer.ensures c.if-branch.true
 
+pub returns-in-None-clause-answer : goal.returns-in-None-clause-answer
+returns-in-None-clause-answer c =
+    refuted_at_end _ _ _ _ _ _ c.loop-refuted.invariant c.if-refuted.true
+    (nil_from_length _ (sym c.loop-refuted.path.ok.0 ∙ c.in-None.ensures.cases.0))
+    c.into_added.ensures.value c.into_added.ensures.within c.into_added.ensures.derived
+
 pub returns-in-None-clause-exact : goal.returns-in-None-clause-exact
 returns-in-None-clause-exact c = (
-  λ _ v meets. refutation_sound _ _ v
-      (refuted_at_end _ _ _ _ _ _ c.loop-refuted.invariant c.if-refuted.true
+  λ _. refutation_sound _ _ _ (
+      refuted_at_end _ _ _ _ _ _ c.loop-refuted.invariant c.if-refuted.true
       (nil_from_length _ (sym c.loop-refuted.path.ok.0 ∙ c.in-None.ensures.cases.0))
-      c.into_added.ensures.value c.into_added.ensures.derived)
-      meets,
+      c.into_added.ensures.value c.into_added.ensures.within c.into_added.ensures.derived),
   λ _. tt,
 )
 

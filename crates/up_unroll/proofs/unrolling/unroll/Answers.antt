@@ -1,7 +1,7 @@
 use Rattle.std.proofs.Common.{arith, ◌<◌, ◌+◌, ℕ, subst, ◌≡◌, ◌∙◌}
 use Rattle.std.specs.List.{All}
 use Rattle.fo_core.specs.Finds.{IsLight}
-use Rattle.up_unroll.specs.Unrolling.{run_queries}
+use Rattle.up_claims.specs.RunQueries.{run_queries}
 use Rattle.up_unroll.proofs.RunLemmas.{light-more, shorter-more, least-run}
 use Rattle.up_unroll.proofs.unrolling.unroll.Goals as goal
 

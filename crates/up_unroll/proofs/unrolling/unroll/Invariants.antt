@@ -1,7 +1,7 @@
 use Rattle.std.proofs.Common.{◌≡◌, ℕ, ◌<◌}
 use Rattle.std.specs.List.{All}
 use Rattle.fo_core.specs.Finds.{IsLight}
-use Rattle.up_unroll.specs.Unrolling.{HasNoRunOf, run_queries}
+use Rattle.up_claims.specs.RunQueries.{HasNoRunOf, run_queries}
 use Rattle.up_unroll.proofs.unrolling.unroll.Given as goal
 
 -- no violating run has fewer steps than this many, and what was asked to find this is light

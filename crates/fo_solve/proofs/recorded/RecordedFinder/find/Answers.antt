@@ -1,5 +1,5 @@
 use Rattle.std.proofs.Common.{subst}
-use Rattle.fo_solve.specs.Kept.{Record, AreAnswers}
+use Rattle.fo_solve.specs.Answering.{Record, AreAnswers}
 use Rattle.fo_solve.proofs.NextLemmas.{next_answers, next_same}
 use Rattle.fo_solve.proofs.recorded.RecordedFinder.find.Goals as goal
 

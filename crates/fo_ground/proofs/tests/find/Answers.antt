@@ -1,6 +1,0 @@
-use Rattle.fo_ground.proofs.tests.find.Goals as goal
-
-pub world_of-requires-clause-met : goal.world_of-requires-clause-met
-world_of-requires-clause-met g c =
-    let a = rw c.in-Sat.is at c.in_ok-values.ensures.answer in
-    rw c.as_slice-values.ensures a.1
