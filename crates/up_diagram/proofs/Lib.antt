@@ -1,6 +1,6 @@
 pub mod Bounds
 pub mod Covered
-pub mod Differing
+pub mod Described
 pub mod Leaving
 pub mod Said
 pub mod Sentences

@@ -2,7 +2,8 @@ ghost use Rattle.std.specs.Prelude.{◌≡◌, ◌+◌, ◌<◌, ◌≤◌, ◌^
 ghost use Rattle.std.specs.List.{All, flat_map, range_with_len, sum};
 ghost use Rattle.fo_core.specs.Runs.{AreElements};
 ghost use Rattle.fo_core.specs.Tables.{symbol_at};
-ghost use Rattle.up_diagram.specs.Diagrams.{element_sorts as element_sorts_of, variables_of, differ as differ_of, differ_from, fact_of, facts_of, diagram as diagram_of, CanDescribe};
+ghost use Rattle.fo_core.specs.Trials.{element_sorts as element_sorts_of};
+ghost use Rattle.up_diagram.specs.Diagrams.{variables_of, differ as differ_of, pair_at, differ_from, fact_of, facts_of, diagram as diagram_of, CanDescribe};
 
 use crate::cube::{Cube, Flat};
 use fo_core::{Seq, Sig, World, all_tuples, sizes_of};
@@ -46,17 +47,28 @@ fn element_sorts(alloc: Global, sizes: &[u32]) -> Result<Seq<u32>, AllocError>
     Ok(sorts)
 }
 
+/// Says that variables i and j differ, where j is a later one of the same sort.
+fn push_pair(lits: &mut Seq<Flat>, sorts: &[u32], i: usize, j: usize) -> Result<(), AllocError>
+    requires few { length sorts.now < 2 ^ 32 }
+    requires first { i < length sorts.now }
+    requires second { j < length sorts.now }
+    ensures { OnOk result (lits.new ≡ lits.old ++ pair_at sorts.now i j) }
+{
+    if i < j && sorts[i] == sorts[j] {
+        return lits.push(Flat::Differ(i as u32, j as u32));
+    }
+    Ok(())
+}
+
 /// Says that variable i and each later one of its sort differ.
+#[tactic(auto, using(fo_core::proofs::Pieces::flat_map_more))]
 fn push_differ_from(lits: &mut Seq<Flat>, sorts: &[u32], i: usize) -> Result<(), AllocError>
     requires few { length sorts.now < 2 ^ 32 }
     requires within { i < length sorts.now }
     ensures { OnOk result (lits.new ≡ lits.old ++ differ_from sorts.now i) }
 {
     'each: for j in 0..sorts.len() {
-        if j <= i || sorts[i] != sorts[j] {
-            continue;
-        }
-        lits.push(Flat::Differ(i as u32, j as u32))?;
+        push_pair(lits, sorts, i, j)?;
     }
     Ok(())
 }
