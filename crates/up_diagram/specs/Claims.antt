@@ -1,5 +1,5 @@
 -- The sentences of a cube.
-use Rattle.std.specs.Prelude.{ℕ, Bool, true, false, cond, List, map}
+use Rattle.std.specs.Prelude.{ℕ, Bool, true, false, cond, map}
 use Rattle.fo_core.specs.declared.signature.Sig.{Sig}
 use Rattle.fo_core.specs.declared.term.Term.TheVariants as T
 use Rattle.fo_core.specs.declared.formula.Formula.{Formula}

@@ -1,8 +1,8 @@
 -- When one cube covers another.
-use Rattle.std.specs.Prelude.{◌≡◌, ℕ, List, length, slice_index, ◌⊎◌}
+use Rattle.std.specs.Prelude.{◌≡◌, ℕ, List, slice_index, ◌⊎◌}
 use Rattle.std.specs.List.{All, Any, AllZip}
 use Rattle.up_diagram.specs.declared.cube.Flat.{Flat}
-use Rattle.up_diagram.specs.declared.cube.Flat.TheVariants.{Differ, Fact, Value}
+use Rattle.up_diagram.specs.declared.cube.Flat.TheVariants.{Differ}
 use Rattle.up_diagram.specs.declared.cube.Cube.{Cube}
 use Rattle.up_diagram.specs.Cubes.{HasSort, HasPlaces, renamed}
 
