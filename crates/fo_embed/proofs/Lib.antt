@@ -3,4 +3,5 @@ pub mod Comparing
 pub mod Ordered
 pub mod Placed
 pub mod Putting
+pub mod Universals
 pub mod Walking
