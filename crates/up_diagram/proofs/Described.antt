@@ -17,7 +17,7 @@ use Rattle.fo_core.proofs.TupleLemmas.{tuples-below}
 use Rattle.fo_core.proofs.Zips.{AllZip-at}
 use Rattle.fo_core.proofs.TableLemmas.{table_is, place-lt}
 use Rattle.fo_least.proofs.ElementLemmas.{place-below}
-use Rattle.up_diagram.specs.Diagrams.{variable_of, variables_of, CanDescribe}
+use Rattle.up_diagram.specs.Diagrams.{variable_of, variables_of, CanDescribe, AreFirsts}
 
 -- one block more
 module _ {X : Type 0} (f : ℕ → List X) (n : ℕ) (old before now : List X) where
@@ -39,17 +39,17 @@ variables-more sizes ss xs i lt below =
     subst (λ n. variables_of sizes (take n ss) (take n xs) ≡ variables_of sizes (take i ss) (take i xs) ++ variable_of sizes (get_or ss i 0) (get_or xs i 0) ∷ []) e
     (variables-next sizes ss xs i lt below)
 
-module _ (sizes firsts : List ℕ) (first : (s : ℕ) → s < length sizes → slice_index firsts s ≡ sum (take s sizes)) (ss xs : List ℕ) (elements : AreElements sizes xs ss) (i : ℕ) where
+module _ (sizes firsts : List ℕ) (first : AreFirsts sizes firsts) (ss xs : List ℕ) (elements : AreElements sizes xs ss) (i : ℕ) where
   pub variable-below : i < length xs → slice_index firsts (get_or ss i 0) + get_or xs i 0 < sum sizes
   variable-below lt =
       let within = sort_within sizes ss xs elements i lt in
       let below = AllZip-at (λ x s. x < slice_index sizes s) xs ss i 0 0 elements lt in
-      omega (arith, first (get_or ss i 0) within, place-below sizes (get_or ss i 0) (get_or xs i 0) within below)
+      omega (arith, first.each (get_or ss i 0) within, place-below sizes (get_or ss i 0) (get_or xs i 0) within below)
 
   pub variables-step : (list now : List ℕ) → i < length xs → list ≡ variables_of sizes (take i ss) (take i xs) → now ≡ list ++ (slice_index firsts (get_or ss i 0) + get_or xs i 0) ∷ [] → now ≡ variables_of sizes (take (i + 1) ss) (take (i + 1) xs)
   variables-step list now lt so_far e =
       e ∙ ap (λ vs. vs ++ (slice_index firsts (get_or ss i 0) + get_or xs i 0) ∷ []) so_far
-      ∙ ap (λ n. variables_of sizes (take i ss) (take i xs) ++ (n + get_or xs i 0) ∷ []) (first (get_or ss i 0) (sort_within sizes ss xs elements i lt))
+      ∙ ap (λ n. variables_of sizes (take i ss) (take i xs) ++ (n + get_or xs i 0) ∷ []) (first.each (get_or ss i 0) (sort_within sizes ss xs elements i lt))
       ∙ sym (variables-more sizes ss xs i (omega (arith, lt, sort_count sizes ss xs elements)) lt)
 
   pub variables-done : (list : List ℕ) → length xs ≤ i → list ≡ variables_of sizes (take i ss) (take i xs) → list ≡ variables_of sizes ss xs
@@ -95,9 +95,9 @@ module _ (sig : Sig) (w : World) (c : ℕ) (fits : Fits sig w) (copy : c < lengt
   result-within is k within function = let lt = (is.sorts k no_symbol within).result function in subst (λ n. (symbol_at sig k).result < n) (sym fits.sorts) lt
 
 -- the variable of a function's value is one of them
-pub value-variable : (sig : Sig) (w : World) (c : ℕ) (firsts : List ℕ) → CanDescribe sig w c → ((s : ℕ) → s < length w.sizes → slice_index firsts s ≡ sum (take s w.sizes)) → (k : ℕ) (xs : List ℕ) → k < length sig.symbols → (symbol_at sig k).relation ≡ false → AreElements w.sizes xs (symbol_at sig k).args →
+pub value-variable : (sig : Sig) (w : World) (c : ℕ) (firsts : List ℕ) → CanDescribe sig w c → AreFirsts w.sizes firsts → (k : ℕ) (xs : List ℕ) → k < length sig.symbols → (symbol_at sig k).relation ≡ false → AreElements w.sizes xs (symbol_at sig k).args →
     slice_index firsts (symbol_at sig k).result + entry sig w c k xs < sum w.sizes
 value-variable sig w c firsts can first k xs within function elements =
     let known = result-within sig w c can.fits can.copy can.signature k within function in
     let below = value-below sig w c can.fits can.copy k xs within function elements in
-    omega (arith, first (symbol_at sig k).result known, place-below w.sizes (symbol_at sig k).result (entry sig w c k xs) known below)
+    omega (arith, first.each (symbol_at sig k).result known, place-below w.sizes (symbol_at sig k).result (entry sig w c k xs) known below)

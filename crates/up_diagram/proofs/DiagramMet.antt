@@ -19,19 +19,12 @@ use Rattle.fo_core.proofs.ListFacts.{all_left, all_right, all_map, all_mapped, a
 use Rattle.fo_core.proofs.PlaceLemmas.{elements-below}
 use Rattle.fo_core.proofs.TupleLemmas.{tuples-below, tuple-found}
 use Rattle.fo_least.proofs.ElementLemmas.{place-below, sorts-length, sorts-at, name_list, names-at, names-elements, value-within}
+use Rattle.fo_least.proofs.Isomorphic.{sort_known}
 use Rattle.up_diagram.specs.declared.cube.Flat.{Flat}
 use Rattle.up_diagram.specs.declared.cube.Flat.TheVariants.{Differ, Fact, Value}
 use Rattle.up_diagram.specs.Cubes.{chosen, HasSign, IsTrueFlat, Meets}
 use Rattle.up_diagram.specs.Diagrams.{variable_of, variables_of, pair_at, differ_from, differ, fact_of, facts_of, diagram}
 use Rattle.up_diagram.proofs.Described.{below-elements, entry-below, value-below}
-
--- a sort that has an element is one of the sorts
-known : (sizes : List ℕ) (s x : ℕ) → x < slice_index sizes s → s < length sizes
-known sizes s x below = by_cases (cases_lt s (length sizes))
-  where
-    by_cases : (s < length sizes) ⊎ (length sizes ≤ s) → s < length sizes
-    by_cases (inl h) = h
-    by_cases (inr h) = absurd (omega (arith, below, get_or_past sizes s 0 h))
 
 -- each variable is that of an element
 found-variable : (sizes : List ℕ) (i : ℕ) → i < sum sizes → (s : ℕ) × (x : ℕ) × (s < length sizes) × (x < slice_index sizes s) × (variable_of sizes s x ≡ i)
@@ -103,7 +96,7 @@ images-elements : (sizes others : List ℕ) (maps : List (List ℕ)) → ((s x :
 images-elements sizes others maps within [] [] h = tt
 images-elements sizes others maps within [] (y ∷ ys) h = absurd h
 images-elements sizes others maps within (s ∷ ss) [] h = absurd h
-images-elements sizes others maps within (s ∷ ss) (y ∷ ys) h = (within s y (known sizes s y h.0) h.0, images-elements sizes others maps within ss ys h.1)
+images-elements sizes others maps within (s ∷ ss) (y ∷ ys) h = (within s y (sort_known sizes s y h.0) h.0, images-elements sizes others maps within ss ys h.1)
 
 module _ (sig : Sig) (w v : World) (c d : ℕ) (fits : Fits sig w) (copy : c < length w.copies) where
   -- what a symbol says of a tuple, where it is a relation, or a function
@@ -119,7 +112,7 @@ module _ (sig : Sig) (w v : World) (c d : ℕ) (fits : Fits sig w) (copy : c < l
     chosen-images [] [] h = refl
     chosen-images [] (y ∷ ys) h = absurd h
     chosen-images (s ∷ ss) [] h = absurd h
-    chosen-images (s ∷ ss) (y ∷ ys) h = ap₂ (λ z zs. z ∷ zs) (same s y (known w.sizes s y h.0) h.0) (chosen-images ss ys h.1)
+    chosen-images (s ∷ ss) (y ∷ ys) h = ap₂ (λ z zs. z ∷ zs) (same s y (sort_known w.sizes s y h.0) h.0) (chosen-images ss ys h.1)
 
     module _ (k : ℕ) (within : k < length sig.symbols) (ys : List ℕ) (elements : AreElements w.sizes ys (symbol_at sig k).args) where
       chosen-are : chosen xs (variables_of w.sizes (symbol_at sig k).args ys) ≡ images maps (symbol_at sig k).args ys
@@ -128,7 +121,7 @@ module _ (sig : Sig) (w v : World) (c d : ℕ) (fits : Fits sig w) (copy : c < l
       value-image : (symbol_at sig k).relation ≡ false → slice_index xs (variable_of w.sizes (symbol_at sig k).result (entry sig w c k ys)) ≡ image maps (symbol_at sig k).result (entry sig w c k ys)
       value-image function =
           let below = value-below sig w c fits copy k ys within function elements in
-          same (symbol_at sig k).result (entry sig w c k ys) (known w.sizes (symbol_at sig k).result (entry sig w c k ys) below) below
+          same (symbol_at sig k).result (entry sig w c k ys) (sort_known w.sizes (symbol_at sig k).result (entry sig w c k ys) below) below
 
       fact-true : IsEmbedding sig w c v d maps → IsTrueFlat sig v d xs (fact_of sig w c k ys)
       fact-true h = by_kind (symbol_at sig k).relation refl
@@ -283,7 +276,7 @@ module _ (sig : Sig) (w : World) (c : ℕ) (fits : Fits sig w) (copy : c < lengt
   selves-are [] [] h = refl
   selves-are [] (y ∷ ys) h = absurd h
   selves-are (s ∷ ss) [] h = absurd h
-  selves-are (s ∷ ss) (y ∷ ys) h = ap₂ (λ z zs. z ∷ zs) (self-is s y (known w.sizes s y h.0) h.0) (selves-are ss ys h.1)
+  selves-are (s ∷ ss) (y ∷ ys) h = ap₂ (λ z zs. z ∷ zs) (self-is s y (sort_known w.sizes s y h.0) h.0) (selves-are ss ys h.1)
 
   pub embeds_in_itself : IsEmbedding sig w c w c selves
   embeds_in_itself = record {
@@ -297,7 +290,7 @@ module _ (sig : Sig) (w : World) (c : ℕ) (fits : Fits sig w) (copy : c < lengt
     functions = λ k ys within e elements.
         let below = value-below sig w c fits copy k ys within e elements in
         ap (λ zs. entry sig w c k zs) (selves-are (symbol_at sig k).args ys elements)
-        ∙ sym (self-is (symbol_at sig k).result (entry sig w c k ys) (known w.sizes (symbol_at sig k).result (entry sig w c k ys) below) below);
+        ∙ sym (self-is (symbol_at sig k).result (entry sig w c k ys) (sort_known w.sizes (symbol_at sig k).result (entry sig w c k ys) below) below);
   }
 
   pub own_diagram_met : Meets sig w c (diagram sig w c)

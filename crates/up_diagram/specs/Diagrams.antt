@@ -1,5 +1,5 @@
 -- The diagram of a state: the cube that says all of it.
-use Rattle.std.specs.Prelude.{ℕ, ◌+◌, ◌<◌, ◌^◌, ◌&&◌, cond, nat_eq, nat_lt, List, [], ◌∷◌, ◌++◌, length, map, take, slice_index}
+use Rattle.std.specs.Prelude.{◌≡◌, ℕ, ◌+◌, ◌<◌, ◌^◌, ◌&&◌, cond, nat_eq, nat_lt, List, [], ◌∷◌, ◌++◌, length, map, take, slice_index}
 use Rattle.std.specs.List.{flat_map, range_with_len, sum}
 use Rattle.fo_core.specs.declared.signature.Sig.{Sig}
 use Rattle.fo_core.specs.declared.world.World.{World}
@@ -58,3 +58,10 @@ pub record CanDescribe (sig : Sig) (w : World) (c : ℕ) : Type 0 where
   pub fits : Fits sig w
   pub copy : c < length w.copies
   pub few : sum w.sizes < 2 ^ 32
+
+-- inside the crate
+
+-- for each sort the variable of its first element
+pub record AreFirsts (sizes firsts : List ℕ) : Type 0 where
+  pub count : length firsts ≡ length sizes
+  pub each : (s : ℕ) → s < length sizes → slice_index firsts s ≡ sum (take s sizes)

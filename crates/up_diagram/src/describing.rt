@@ -3,7 +3,7 @@ ghost use Rattle.std.specs.List.{All, flat_map, range_with_len, sum};
 ghost use Rattle.fo_core.specs.Runs.{AreElements};
 ghost use Rattle.fo_core.specs.Tables.{symbol_at};
 ghost use Rattle.fo_core.specs.Trials.{element_sorts as element_sorts_of};
-ghost use Rattle.up_diagram.specs.Diagrams.{variables_of, differ as differ_of, pair_at, differ_from, fact_of, facts_of, diagram as diagram_of, CanDescribe};
+ghost use Rattle.up_diagram.specs.Diagrams.{variables_of, differ as differ_of, pair_at, differ_from, fact_of, facts_of, diagram as diagram_of, CanDescribe, AreFirsts};
 
 use crate::cube::{Cube, Flat};
 use fo_core::{Seq, Sig, World, all_tuples, sizes_of};
@@ -12,8 +12,7 @@ use std::alloc::{AllocError, Global};
 /// For each sort the variable of its first element.
 fn first_variables(alloc: Global, sizes: &[u32]) -> Result<Seq<u32>, AllocError>
     requires few { sum sizes.now < 2 ^ 32 }
-    ensures count { IfOk result (λ firsts. length firsts ≡ length sizes.now) }
-    ensures each { IfOk result (λ firsts. (s : ℕ) → s < length sizes.now → slice_index firsts s ≡ sum (take s sizes.now)) }
+    ensures { IfOk result (λ firsts. AreFirsts sizes.now firsts) }
 {
     let mut firsts = Seq::new(alloc);
     let mut next = 0;
@@ -24,7 +23,7 @@ fn first_variables(alloc: Global, sizes: &[u32]) -> Result<Seq<u32>, AllocError>
     Ok(firsts)
 }
 
-/// Puts a sort behind the others, this many times.
+/// Adds a sort after the others, this many times.
 fn push_sorts(sorts: &mut Seq<u32>, sort: u32, count: u32) -> Result<(), AllocError>
     ensures { OnOk result (sorts.new ≡ sorts.old ++ replicate count sort) }
 {
@@ -94,8 +93,7 @@ fn variables(
     elements: &[u32],
 ) -> Result<Seq<u32>, AllocError>
     requires few { sum sizes.now < 2 ^ 32 }
-    requires count { length firsts.now ≡ length sizes.now }
-    requires firsts { (s : ℕ) → s < length sizes.now → slice_index firsts.now s ≡ sum (take s sizes.now) }
+    requires firsts { AreFirsts sizes.now firsts.now }
     requires elements { AreElements sizes.now elements.now sorts.now }
     ensures { IfOk result (λ vs. vs ≡ variables_of sizes.now sorts.now elements.now) }
 {
@@ -117,8 +115,7 @@ fn fact(
     elements: &[u32],
 ) -> Result<Flat, AllocError>
     requires describe { CanDescribe sig.now w.now copy }
-    requires count { length firsts.now ≡ length w.now.sizes }
-    requires firsts { (s : ℕ) → s < length w.now.sizes → slice_index firsts.now s ≡ sum (take s w.now.sizes) }
+    requires firsts { AreFirsts w.now.sizes firsts.now }
     requires within { symbol < length sig.now.symbols }
     requires elements { AreElements w.now.sizes elements.now (symbol_at sig.now symbol).args }
     ensures { IfOk result (λ lit. lit ≡ fact_of sig.now w.now copy symbol elements.now) }
@@ -145,8 +142,7 @@ fn push_facts(
     lits: &mut Seq<Flat>,
 ) -> Result<(), AllocError>
     requires describe { CanDescribe sig.now w.now copy }
-    requires count { length firsts.now ≡ length w.now.sizes }
-    requires firsts { (s : ℕ) → s < length w.now.sizes → slice_index firsts.now s ≡ sum (take s w.now.sizes) }
+    requires firsts { AreFirsts w.now.sizes firsts.now }
     requires within { symbol < length sig.now.symbols }
     ensures { OnOk result (lits.new ≡ lits.old ++ facts_of sig.now w.now copy symbol) }
 {

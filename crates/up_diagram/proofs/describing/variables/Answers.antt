@@ -5,7 +5,7 @@ use Rattle.up_diagram.proofs.describing.variables.Goals as goal
 
 pub bounds-firsts-sorts : goal.bounds-firsts-sorts
 bounds-firsts-sorts c =
-    subst (λ n. slice_index c.args.sorts.now c.each.i < n) (sym c.requires.count)
+    subst (λ n. slice_index c.args.sorts.now c.each.i < n) (sym c.requires.firsts.count)
     (sort_within c.args.sizes.now c.args.sorts.now c.args.elements.now c.requires.elements c.each.i c.each-test.true)
 
 pub overflow_add-firsts : goal.overflow_add-firsts
