@@ -1,4 +1,4 @@
-ghost use Rattle.std.specs.Prelude.{◌≡◌, ◌+◌, ◌<◌, ◌≤◌, ◌^◌, ◌++◌, ◌∷◌, [], ℕ, length, map, take, slice_index, replicate, IfOk, OnOk};
+ghost use Rattle.std.specs.Prelude.{◌≡◌, ◌+◌, ◌<◌, ◌≤◌, ◌^◌, ◌++◌, ◌∷◌, [], ℕ, length, map, take, slice_index, replicate, ◌↔◌, IsTrue, IfOk, OnOk};
 ghost use Rattle.std.specs.List.{All, flat_map, range_with_len, sum};
 ghost use Rattle.fo_core.specs.Runs.{AreElements};
 ghost use Rattle.fo_core.specs.Tables.{symbol_at};
@@ -8,6 +8,20 @@ ghost use Rattle.up_diagram.specs.Diagrams.{variables_of, differ as differ_of, p
 use crate::cube::{Cube, Flat};
 use fo_core::{Seq, Sig, World, all_tuples, sizes_of};
 use std::alloc::{AllocError, Global};
+
+/// Whether the world has fewer than 2^32 elements in all. It takes no memory.
+pub fn has_few_elements(w: &World) -> bool
+    ensures { IsTrue result ↔ (sum w.now.sizes < 2 ^ 32) }
+{
+    let mut count: u32 = 0;
+    'each: for size in w.sizes.as_slice() {
+        match count.checked_add(*size) {
+            Some(more) => count = more,
+            None => return false,
+        }
+    }
+    true
+}
 
 /// For each sort the variable of its first element.
 fn first_variables(alloc: Global, sizes: &[u32]) -> Result<Seq<u32>, AllocError>
@@ -84,75 +98,69 @@ fn push_differ(lits: &mut Seq<Flat>, sorts: &[u32]) -> Result<(), AllocError>
     Ok(())
 }
 
-/// The variables of elements of these sorts.
-fn variables(
-    alloc: Global,
-    sizes: &[u32],
-    firsts: &[u32],
-    sorts: &[u32],
-    elements: &[u32],
-) -> Result<Seq<u32>, AllocError>
-    requires few { sum sizes.now < 2 ^ 32 }
-    requires firsts { AreFirsts sizes.now firsts.now }
-    requires elements { AreElements sizes.now elements.now sorts.now }
-    ensures { IfOk result (λ vs. vs ≡ variables_of sizes.now sorts.now elements.now) }
-{
-    let mut list = Seq::new(alloc);
-    'each: for (i, x) in elements.iter().enumerate() {
-        list.push(firsts[sorts[i] as usize] + *x)?;
-    }
-    Ok(list)
+/// A copy of a world, and for each sort the variable of its first element.
+#[derive(Clone, Copy)]
+struct Described<'a> {
+    sig: &'a Sig,
+    world: &'a World,
+    copy: u32,
+    firsts: &'a [u32],
 }
 
-/// What the symbol says of the elements in the copy.
-fn fact(
-    alloc: Global,
-    sig: &Sig,
-    w: &World,
-    copy: u32,
-    firsts: &[u32],
-    symbol: u32,
-    elements: &[u32],
-) -> Result<Flat, AllocError>
-    requires describe { CanDescribe sig.now w.now copy }
-    requires firsts { AreFirsts w.now.sizes firsts.now }
-    requires within { symbol < length sig.now.symbols }
-    requires elements { AreElements w.now.sizes elements.now (symbol_at sig.now symbol).args }
-    ensures { IfOk result (λ lit. lit ≡ fact_of sig.now w.now copy symbol elements.now) }
-{
-    let found = sig.symbols.at(symbol as usize);
-    let value = w.value(sig, copy, symbol, elements);
-    let sizes = w.sizes.as_slice();
-    let vars = variables(alloc, sizes, firsts, found.args.as_slice(), elements)?;
-    if found.relation {
-        return Ok(Flat::Fact(value == 1, symbol, vars));
+impl Described<'_> {
+    /// The variables of elements of these sorts.
+    fn variables(
+        &self,
+        alloc: Global,
+        sorts: &[u32],
+        elements: &[u32],
+    ) -> Result<Seq<u32>, AllocError>
+        requires few { sum self.now.world.now.sizes < 2 ^ 32 }
+        requires firsts { AreFirsts self.now.world.now.sizes self.now.firsts.now }
+        requires elements { AreElements self.now.world.now.sizes elements.now sorts.now }
+        ensures { IfOk result (λ vs. vs ≡ variables_of self.now.world.now.sizes sorts.now elements.now) }
+    {
+        let firsts = self.firsts;
+        let mut list = Seq::new(alloc);
+        'each: for (i, x) in elements.iter().enumerate() {
+            list.push(firsts[sorts[i] as usize] + *x)?;
+        }
+        Ok(list)
     }
-    let of_value = firsts[found.result as usize] + value;
-    Ok(Flat::Value(symbol, vars, of_value))
-}
 
-/// Says all that the symbol says in the copy.
-fn push_facts(
-    alloc: Global,
-    sig: &Sig,
-    w: &World,
-    copy: u32,
-    firsts: &[u32],
-    symbol: u32,
-    lits: &mut Seq<Flat>,
-) -> Result<(), AllocError>
-    requires describe { CanDescribe sig.now w.now copy }
-    requires firsts { AreFirsts w.now.sizes firsts.now }
-    requires within { symbol < length sig.now.symbols }
-    ensures { OnOk result (lits.new ≡ lits.old ++ facts_of sig.now w.now copy symbol) }
-{
-    let sorts = sig.symbols.at(symbol as usize).args.as_slice();
-    let sizes = sizes_of(alloc, w.sizes.as_slice(), sorts)?;
-    let tuples = all_tuples(alloc, sizes.as_slice())?;
-    'each: for tuple in tuples.as_slice() {
-        lits.push(fact(alloc, sig, w, copy, firsts, symbol, tuple.as_slice())?)?;
+    /// What the symbol says of the elements.
+    fn fact(&self, alloc: Global, symbol: u32, elements: &[u32]) -> Result<Flat, AllocError>
+        requires describe { CanDescribe self.now.sig.now self.now.world.now self.now.copy }
+        requires firsts { AreFirsts self.now.world.now.sizes self.now.firsts.now }
+        requires within { symbol < length self.now.sig.now.symbols }
+        requires elements { AreElements self.now.world.now.sizes elements.now (symbol_at self.now.sig.now symbol).args }
+        ensures { IfOk result (λ lit. lit ≡ fact_of self.now.sig.now self.now.world.now self.now.copy symbol elements.now) }
+    {
+        let found = self.sig.symbols.at(symbol as usize);
+        let value = self.world.value(self.sig, self.copy, symbol, elements);
+        let variables = self.variables(alloc, found.args.as_slice(), elements)?;
+        if found.relation {
+            return Ok(Flat::Fact(value == 1, symbol, variables));
+        }
+        let of_value = self.firsts[found.result as usize] + value;
+        Ok(Flat::Value(symbol, variables, of_value))
     }
-    Ok(())
+
+    /// Says all that the symbol says.
+    fn push_facts(&self, alloc: Global, symbol: u32, lits: &mut Seq<Flat>) -> Result<(), AllocError>
+        requires describe { CanDescribe self.now.sig.now self.now.world.now self.now.copy }
+        requires firsts { AreFirsts self.now.world.now.sizes self.now.firsts.now }
+        requires within { symbol < length self.now.sig.now.symbols }
+        ensures { OnOk result (lits.new ≡ lits.old ++ facts_of self.now.sig.now self.now.world.now self.now.copy symbol) }
+    {
+        let sorts = self.sig.symbols.at(symbol as usize).args.as_slice();
+        let sizes = sizes_of(alloc, self.world.sizes.as_slice(), sorts)?;
+        let tuples = all_tuples(alloc, sizes.as_slice())?;
+        'each: for tuple in tuples.as_slice() {
+            lits.push(self.fact(alloc, symbol, tuple.as_slice())?)?;
+        }
+        Ok(())
+    }
 }
 
 /// The diagram of a copy of the world: the cube that says all of it (Robinson's diagram, of model
@@ -161,7 +169,7 @@ fn push_facts(
 /// whether the relation holds or which element is the function's value.
 ///
 /// The signature has to be well-sorted, the world to fit it and to have fewer than 2^32 elements in
-/// all, and the copy to be there. The one error is out of memory.
+/// all ([`has_few_elements`]), and the copy to be there. The one error is out of memory.
 #[tactic(auto, using(fo_core::proofs::Pieces::flat_map_more))]
 pub fn diagram(alloc: Global, sig: &Sig, w: &World, copy: u32) -> Result<Cube, AllocError>
     requires { CanDescribe sig.now w.now copy }
@@ -171,8 +179,14 @@ pub fn diagram(alloc: Global, sig: &Sig, w: &World, copy: u32) -> Result<Cube, A
     let firsts = first_variables(alloc, w.sizes.as_slice())?;
     let mut lits = Seq::new(alloc);
     push_differ(&mut lits, sorts.as_slice())?;
+    let described = Described {
+        sig,
+        world: w,
+        copy,
+        firsts: firsts.as_slice(),
+    };
     'each: for k in 0..sig.symbols.len() {
-        push_facts(alloc, sig, w, copy, firsts.as_slice(), k as u32, &mut lits)?;
+        described.push_facts(alloc, k as u32, &mut lits)?;
     }
     Ok(Cube { sorts, lits })
 }
