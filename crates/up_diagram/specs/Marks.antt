@@ -1,5 +1,5 @@
 -- Which variables stand in some literals, and how many of these come before each.
-use Rattle.std.specs.Prelude.{◌≡◌, ℕ, ◌<◌, Bool, false, List, length, slice_index, slice_index_or}
+use Rattle.std.specs.Prelude.{◌≡◌, ℕ, ◌<◌, Bool, false, List, length, slice_index_or}
 use Rattle.std.specs.List.{filter, range_with_len}
 use Rattle.up_diagram.specs.declared.cube.Flat.{Flat}
 use Rattle.up_diagram.specs.Cubes.{is_used}
@@ -9,9 +9,6 @@ pub record AreMarks (lits : List Flat) (many : ℕ) (marks : List Bool) : Type 0
   pub count : length marks ≡ many
   pub each : (v : ℕ) → v < many → slice_index_or marks v false ≡ is_used lits v
 
--- for each variable how many marked ones come before it
-pub record ArePlaces (marks : List Bool) (places : List ℕ) : Type 0 where
-  pub count : length places ≡ length marks
-  pub each :
-      (v : ℕ) → v < length marks →
-      slice_index places v ≡ length (filter (λ k. slice_index_or marks k false) (range_with_len 0 v))
+-- how many marked variables come before this one
+abbrev pub rank_among : List Bool → ℕ → ℕ
+rank_among marks v = length (filter (λ k. slice_index_or marks k false) (range_with_len 0 v))

@@ -91,15 +91,23 @@ fn is_flat(sig: &Sig, sorts: &[u32], lit: &Flat) -> bool
     }
 }
 
+/// Whether the variables are below this number.
+fn all_below(variables: &[u32], count: usize) -> bool
+    ensures { IsTrue result ↔ All (λ v. v < count) variables.now }
+{
+    variables.iter().all(|v| (*v as usize) < count)
+}
+
 /// Whether the variables of the literal are below this number.
 fn are_below(lit: &Flat, count: usize) -> bool
     ensures { IsTrue result ↔ All (λ v. v < count) (variables_in lit.now) }
 {
     match lit {
         Flat::Differ(i, j) => (*i as usize) < count && (*j as usize) < count,
-        Flat::Fact(_, _, variables) => variables.as_slice().iter().all(|v| (*v as usize) < count),
+        Flat::Fact(_, _, variables) => all_below(variables.as_slice(), count),
         Flat::Value(_, variables, v) => {
-            variables.as_slice().iter().all(|v| (*v as usize) < count) && (*v as usize) < count
+            let last = (*v as usize) < count;
+            last && all_below(variables.as_slice(), count)
         }
     }
 }

@@ -1,7 +1,7 @@
 ghost use Rattle.std.specs.Prelude.{◌≡◌, ◌<◌, ◌||◌, ◌++◌, ◌^◌, ℕ, Bool, false, length, map, nat_eq, slice_index, slice_index_or, IfOk, OnOk};
 ghost use Rattle.std.specs.List.{All, filter, list_any, range_with_len};
 ghost use Rattle.up_diagram.specs.Cubes.{HasPlaces, variables_in, is_used, new_place, renamed as renamed_of, tightened as tightened_of, without as without_of};
-ghost use Rattle.up_diagram.specs.Marks.{AreMarks, ArePlaces};
+ghost use Rattle.up_diagram.specs.Marks.{AreMarks, rank_among};
 
 use crate::cube::{Cube, Flat};
 use fo_core::Seq;
@@ -51,16 +51,15 @@ fn marks_of(alloc: Global, lits: &[Flat], count: usize) -> Result<Vec<bool>, All
 
 /// For each variable how many marked ones come before it.
 fn places_of(alloc: Global, marks: &[bool]) -> Result<Vec<usize>, AllocError>
-    ensures { IfOk result (λ places. ArePlaces marks.now places.items) }
+    ensures { IfOk result (λ places. places.items ≡ map (rank_among marks.now) (range_with_len 0 (length marks.now))) }
 {
     let mut places = Vec::new(alloc);
     let mut next = 0;
     'each: for marked in marks {
         places.push(next)?;
-        if !*marked {
-            continue;
+        if *marked {
+            next += 1;
         }
-        next += 1;
     }
     Ok(places)
 }
@@ -107,10 +106,9 @@ fn marked_sorts(alloc: Global, sorts: &[u32], marks: &[bool]) -> Result<Seq<u32>
 {
     let mut kept = Seq::new(alloc);
     'each: for v in 0..sorts.len() {
-        if !marks[v] {
-            continue;
+        if marks[v] {
+            kept.push(sorts[v])?;
         }
-        kept.push(sorts[v])?;
     }
     Ok(kept)
 }
