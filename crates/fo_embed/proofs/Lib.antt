@@ -4,4 +4,5 @@ pub mod Ordered
 pub mod Placed
 pub mod Putting
 pub mod Sizes
+pub mod Universals
 pub mod Walking

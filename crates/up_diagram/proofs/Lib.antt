@@ -1,6 +1,7 @@
 pub mod Bounds
 pub mod Covered
-pub mod Differing
+pub mod Described
+pub mod DiagramMet
 pub mod Leaving
 pub mod Places
 pub mod Said

@@ -1,6 +1,7 @@
 use Rattle.std.proofs.Common.{◌≡◌, ◌++◌}
 use Rattle.std.specs.List.{flat_map, range_with_len}
-use Rattle.up_diagram.specs.Diagrams.{element_sorts, differ, facts_of}
+use Rattle.fo_core.specs.Trials.{element_sorts}
+use Rattle.up_diagram.specs.Diagrams.{differ, facts_of}
 use Rattle.up_diagram.proofs.describing.diagram.Given as goal
 
 -- what the symbols before this one say is said
