@@ -33,13 +33,21 @@ fn embeds(alloc: Global, times: u32, sig: &Sig, s: &World, t: &World) -> anyhow:
 }
 
 /// Whether the world meets the cube.
+fn is_met_once(alloc: Global, sig: &Sig, cube: &Cube, t: &World) -> anyhow::Result<bool>
+    requires { CanMeet sig.now t.now 0 cube.now }
+{
+    let vars = u32::try_from(cube.sorts.len())?;
+    let mut picks = Picks::new(alloc, vars)?;
+    Ok(meets(sig, t, 0, cube, &mut picks))
+}
+
+/// Whether the world meets the cube.
 fn is_met(alloc: Global, times: u32, sig: &Sig, cube: &Cube, t: &World) -> anyhow::Result<bool>
     requires { CanMeet sig.now t.now 0 cube.now }
 {
     let mut found = false;
     for _ in 0..times {
-        let mut picks = Picks::new(alloc, cube.sorts.len() as u32)?;
-        found = meets(sig, t, 0, cube, &mut picks);
+        found = is_met_once(alloc, sig, cube, t)?;
     }
     Ok(found)
 }
