@@ -1,5 +1,6 @@
 pub mod Bounds
 pub mod Covered
+pub mod Crowded
 pub mod Described
 pub mod DiagramMet
 pub mod Leaving

@@ -1,5 +1,5 @@
 -- The literals that are tried speak of elements that are picked, and their truth stays.
-use Rattle.std.proofs.Common.{◌≡◌, ℕ, zero, suc, true, false, Bool, ◌↔◌, ◌+◌, ◌<◌, ◌≤◌, List, [], ◌∷◌, ◌++◌, length, get_or, map, take, refl, sym, ap, ap₂, subst, ◌∙◌, arith}
+use Rattle.std.proofs.Common.{◌≡◌, ℕ, ◌↔◌, ◌<◌, ◌≤◌, List, [], ◌∷◌, ◌++◌, length, get_or, map, take, refl, sym, ap, ap₂, subst, ◌∙◌, arith}
 use Rattle.std.specs.Prelude.{slice_index}
 use Rattle.std.specs.List.{All, AllZip}
 use Rattle.std.proofs.lemmas.List.{get_or_append_left, get_or-take}
@@ -15,7 +15,7 @@ use Rattle.up_diagram.specs.declared.cube.Flat.TheVariants.{Differ, Fact, Value}
 use Rattle.up_diagram.specs.declared.cube.Cube.{Cube}
 use Rattle.up_diagram.specs.Cubes.{chosen, HasSign, IsTrueFlat, HasSort, IsFlat, IsCube, HasPlaces, variables_in, renamed}
 use Rattle.up_diagram.specs.Covers.{HasLiteral, Covers}
-use Rattle.up_diagram.specs.Trying.{most, bound, BecomesOne, SendsFrom}
+use Rattle.up_diagram.specs.Trying.{bound, BecomesOne, SendsFrom}
 use Rattle.up_diagram.proofs.Bounds.{most-above, most-least, most-push}
 use Rattle.up_diagram.proofs.Covered.{last_of_all}
 

@@ -9,6 +9,10 @@ pub record AreMarks (lits : List Flat) (many : ℕ) (marks : List Bool) : Type 0
   pub count : length marks ≡ many
   pub each : (v : ℕ) → v < many → slice_index_or marks v false ≡ is_used lits v
 
+-- the variables below a number that are marked
+abbrev pub marked : List Bool → ℕ → List ℕ
+marked marks n = filter (λ k. slice_index_or marks k false) (range_with_len 0 n)
+
 -- how many marked variables come before this one
 abbrev pub rank_among : List Bool → ℕ → ℕ
-rank_among marks v = length (filter (λ k. slice_index_or marks k false) (range_with_len 0 v))
+rank_among marks v = length (marked marks v)

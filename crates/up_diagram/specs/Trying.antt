@@ -3,12 +3,11 @@ use Rattle.std.specs.Prelude.{◌≡◌, ℕ, ◌+◌, ◌<◌, ◌≤◌, max, 
 use Rattle.std.specs.List.{All, AllZip}
 use Rattle.fo_core.specs.declared.signature.Sig.{Sig}
 use Rattle.fo_core.specs.declared.world.World.{World}
-use Rattle.fo_core.specs.Runs.{AreElements}
 use Rattle.fo_core.specs.Sorted.{IsSig}
 use Rattle.fo_core.specs.Tables.{Fits}
 use Rattle.up_diagram.specs.declared.cube.Flat.{Flat}
 use Rattle.up_diagram.specs.declared.cube.Cube.{Cube}
-use Rattle.up_diagram.specs.Cubes.{IsTrueFlat, IsCube, HasPlaces, HasSort, variables_in, renamed}
+use Rattle.up_diagram.specs.Cubes.{IsTrueFlat, IsCube, HasSort, variables_in, renamed}
 use Rattle.up_diagram.specs.Covers.{HasLiteral}
 
 -- copy c of the world may be tried against the cube

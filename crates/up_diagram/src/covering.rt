@@ -1,9 +1,10 @@
-ghost use Rattle.std.specs.Prelude.{◌≡◌, ◌↔◌, ◌<◌, ◌≤◌, ◌^◌, length, map, take, slice_index, IsTrue, IfOk};
+ghost use Rattle.std.specs.Prelude.{◌≡◌, ◌↔◌, ◌<◌, ◌≤◌, ◌^◌, [], length, map, take, slice_index, IsTrue, IfOk};
 ghost use Rattle.std.specs.List.{All, AllZip};
 ghost use Rattle.up_diagram.specs.Cubes.{HasPlaces, HasSort, variables_in, renamed};
 ghost use Rattle.up_diagram.specs.Covers.{HasLiteral, Covers, IsAlike};
 ghost use Rattle.up_diagram.specs.Trying.{Sends, SendsSoFar, SendsFrom};
 
+use crate::crowding::{are_proper, are_too_many, count_of};
 use crate::cube::{Cube, Flat};
 use crate::meeting::bound;
 use crate::picks::Picks;
@@ -76,6 +77,23 @@ fn sends(images: &[usize], d: &Cube, c: &Cube) -> bool
     true
 }
 
+/// Whether more variables of some sort are all to have images that differ than the other cube has.
+fn has_no_room(d: &Cube, c: &Cube) -> bool
+    ensures { IsTrue result → ¬ SendsFrom [] d.now c.now }
+{
+    if !are_proper(c.lits.as_slice()) {
+        return false;
+    }
+    let sorts = d.sorts.as_slice();
+    'each: for sort in sorts {
+        let room = count_of(c.sorts.as_slice(), *sort);
+        if are_too_many(sorts, d.lits.as_slice(), *sort, room) {
+            return true;
+        }
+    }
+    false
+}
+
 /// Whether there are images for the variables from this one on with which all literals become some
 /// of the other cube.
 fn send(d: &Cube, c: &Cube, images: &mut [usize], at: usize) -> bool
@@ -117,12 +135,17 @@ pub fn covers_in(d: &Cube, c: &Cube, picks: &mut Picks) -> bool
     if !sends(&[], d, c) {
         return false;
     }
+    if has_no_room(d, c) {
+        return false;
+    }
     send(d, c, picks.slots.as_mut_slice(), 0)
 }
 
 /// Whether the cube `d` covers the cube `c`: some map of all variables of `d` to variables of `c`
 /// keeps sorts and sends each literal of `d` to a literal of `c`, where that two variables differ may
 /// be said in either order. Whatever meets `c` then meets `d` (a weak form of subsumption of clauses).
+/// Images are given one variable after the other, and a literal is tried as soon as its variables have
+/// some; none are tried where more variables of a sort are all to differ than `c` has.
 ///
 /// It asks that each variable in a literal of `d` is a place in its list of sorts. The one error is
 /// out of memory.

@@ -1,7 +1,7 @@
 ghost use Rattle.std.specs.Prelude.{◌≡◌, ◌<◌, ◌||◌, ◌++◌, ◌^◌, ℕ, Bool, false, length, map, nat_eq, slice_index, slice_index_or, IfOk, OnOk};
-ghost use Rattle.std.specs.List.{All, filter, list_any, range_with_len};
+ghost use Rattle.std.specs.List.{All, list_any, range_with_len};
 ghost use Rattle.up_diagram.specs.Cubes.{HasPlaces, variables_in, is_used, new_place, renamed as renamed_of, tightened as tightened_of, without as without_of};
-ghost use Rattle.up_diagram.specs.Marks.{AreMarks, rank_among};
+ghost use Rattle.up_diagram.specs.Marks.{AreMarks, marked, rank_among};
 
 use crate::cube::{Cube, Flat};
 use fo_core::Seq;
@@ -11,7 +11,9 @@ use std::alloc::{AllocError, Global};
 fn mark_each(marks: &mut [bool], variables: &[u32])
     requires { All (λ v. v < length marks.old) variables.now }
     ensures count { length marks.new ≡ length marks.old }
-    ensures each { (v : ℕ) → v < length marks.old → slice_index_or marks.new v false ≡ (slice_index_or marks.old v false || list_any (nat_eq v) variables.now) }
+    ensures each { (v : ℕ) → v < length marks.old →
+        slice_index_or marks.new v false ≡
+        (slice_index_or marks.old v false || list_any (nat_eq v) variables.now) }
 {
     'each: for v in variables {
         marks[*v as usize] = true;
@@ -22,7 +24,9 @@ fn mark_each(marks: &mut [bool], variables: &[u32])
 fn mark(marks: &mut [bool], lit: &Flat)
     requires { All (λ v. v < length marks.old) (variables_in lit.now) }
     ensures count { length marks.new ≡ length marks.old }
-    ensures each { (v : ℕ) → v < length marks.old → slice_index_or marks.new v false ≡ (slice_index_or marks.old v false || list_any (nat_eq v) (variables_in lit.now)) }
+    ensures each { (v : ℕ) → v < length marks.old →
+        slice_index_or marks.new v false ≡
+        (slice_index_or marks.old v false || list_any (nat_eq v) (variables_in lit.now)) }
 {
     match lit {
         Flat::Differ(i, j) => {
@@ -51,7 +55,8 @@ fn marks_of(alloc: Global, lits: &[Flat], count: usize) -> Result<Vec<bool>, All
 
 /// For each variable how many marked ones come before it.
 fn places_of(alloc: Global, marks: &[bool]) -> Result<Vec<usize>, AllocError>
-    ensures { IfOk result (λ places. places.items ≡ map (rank_among marks.now) (range_with_len 0 (length marks.now))) }
+    ensures { IfOk result (λ places.
+        places.items ≡ map (rank_among marks.now) (range_with_len 0 (length marks.now))) }
 {
     let mut places = Vec::new(alloc);
     let mut next = 0;
@@ -102,7 +107,8 @@ fn renamed(alloc: Global, places: &[usize], lit: &Flat) -> Result<Flat, AllocErr
 /// The sorts of the variables that are marked.
 fn marked_sorts(alloc: Global, sorts: &[u32], marks: &[bool]) -> Result<Seq<u32>, AllocError>
     requires { length marks.now ≡ length sorts.now }
-    ensures { IfOk result (λ kept. kept ≡ map (slice_index sorts.now) (filter (λ v. slice_index_or marks.now v false) (range_with_len 0 (length sorts.now)))) }
+    ensures { IfOk result (λ kept. kept ≡
+        map (slice_index sorts.now) (marked marks.now (length sorts.now))) }
 {
     let mut kept = Seq::new(alloc);
     'each: for v in 0..sorts.len() {
@@ -116,7 +122,8 @@ fn marked_sorts(alloc: Global, sorts: &[u32], marks: &[bool]) -> Result<Seq<u32>
 /// A cube of these literals without the variables that stand in none.
 fn tightened(alloc: Global, sorts: &[u32], lits: &[Flat]) -> Result<Cube, AllocError>
     requires { All (λ lit. All (λ v. v < length sorts.now) (variables_in lit)) lits.now }
-    ensures { IfOk result (λ cube. cube ≡ tightened_of (record { sorts = sorts.now; lits = lits.now })) }
+    ensures { IfOk result (λ cube. cube ≡
+        tightened_of (record { sorts = sorts.now; lits = lits.now })) }
 {
     let marks = marks_of(alloc, lits, sorts.len())?;
     let places = places_of(alloc, marks.as_slice())?;

@@ -3,6 +3,7 @@
 
 mod claims;
 mod covering;
+mod crowding;
 mod cube;
 mod describing;
 mod laws;

@@ -1,10 +1,11 @@
-ghost use Rattle.std.specs.Prelude.{◌≡◌, ◌↔◌, ◌<◌, ◌≤◌, ◌^◌, ◌++◌, ℕ, List, length, map, max, take, drop, slice_index, IsTrue};
+ghost use Rattle.std.specs.Prelude.{◌≡◌, ◌↔◌, ◌<◌, ◌≤◌, ◌^◌, ◌++◌, ℕ, List, [], length, map, max, take, drop, slice_index, IsTrue};
 ghost use Rattle.std.specs.List.{All};
 ghost use Rattle.fo_core.specs.Runs.{AreElements};
 ghost use Rattle.fo_core.specs.Tables.{symbol_at, entry, tuples, place as place_of};
 ghost use Rattle.up_diagram.specs.Cubes.{chosen, IsTrueFlat, Meets, IsFlat};
 ghost use Rattle.up_diagram.specs.Trying.{most, bound as bound_of, CanMeet, Passes, PassesSoFar, MeetsFrom};
 
+use crate::crowding::are_too_many;
 use crate::cube::{Cube, Flat};
 use crate::picks::Picks;
 use fo_core::{Sig, World};
@@ -105,6 +106,21 @@ fn passes(trial: &Trial, picks: &[usize]) -> bool
     true
 }
 
+/// Whether more variables of some sort are all to differ than the sort has elements.
+fn has_no_room(trial: &Trial) -> bool
+    requires { CanMeet trial.now.sig.now trial.now.w.now trial.now.copy trial.now.cube.now }
+    ensures { IsTrue result → ¬ MeetsFrom trial.now.sig.now trial.now.w.now trial.now.copy [] trial.now.cube.now }
+{
+    let sorts = trial.cube.sorts.as_slice();
+    'each: for sort in sorts {
+        let room = *trial.w.sizes.at(*sort as usize) as usize;
+        if are_too_many(sorts, trial.cube.lits.as_slice(), *sort, room) {
+            return true;
+        }
+    }
+    false
+}
+
 /// Whether there are elements for the variables from this one on with which all literals are true.
 fn fill(trial: &Trial, picks: &mut [usize], at: usize) -> bool
     requires meet { CanMeet trial.now.sig.now trial.now.w.now trial.now.copy trial.now.cube.now }
@@ -136,7 +152,8 @@ fn fill(trial: &Trial, picks: &mut [usize], at: usize) -> bool
 ///
 /// It asks for a world that fits the signature, a copy that is there, a cube that is well-sorted for
 /// the signature, and room for its variables. A literal is tried as soon as its variables stand for
-/// elements. It takes no memory.
+/// elements, and none where more variables of a sort are all to differ than it has elements. It takes
+/// no memory.
 pub fn meets(sig: &Sig, w: &World, copy: u32, cube: &Cube, picks: &mut Picks) -> bool
     requires meet { CanMeet sig.now w.now copy cube.now }
     requires room { length cube.now.sorts ≤ picks.old }
@@ -150,6 +167,9 @@ pub fn meets(sig: &Sig, w: &World, copy: u32, cube: &Cube, picks: &mut Picks) ->
         cube,
     };
     if !passes(&trial, &[]) {
+        return false;
+    }
+    if has_no_room(&trial) {
         return false;
     }
     fill(&trial, picks.slots.as_mut_slice(), 0)

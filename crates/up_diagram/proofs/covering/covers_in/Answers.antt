@@ -1,9 +1,8 @@
-use Rattle.std.proofs.Common.{◌≡◌, ◌∙◌, ◌<◌, [], length, take, arith}
 use Rattle.fo_core.proofs.Answered.{never, false_from, answered}
 use Rattle.up_diagram.specs.Cubes.{HasSort}
 use Rattle.up_diagram.specs.Covers.{Covers}
 use Rattle.up_diagram.specs.Trying.{BecomesOne}
-use Rattle.up_diagram.proofs.Stepping.{none-yet, last-at-first}
+use Rattle.up_diagram.proofs.Stepping.{last-at-first}
 use Rattle.up_diagram.proofs.Trials.{sent-stable, from-covers, to-covers}
 use Rattle.up_diagram.proofs.covering.covers_in.Goals as goal
 

@@ -1,4 +1,4 @@
-use Rattle.std.proofs.Common.{◌∙◌, length, arith}
+use Rattle.std.proofs.Common.{length, arith}
 use Rattle.up_diagram.specs.Cubes.{variables_in}
 use Rattle.up_diagram.proofs.Bounds.{most-above}
 use Rattle.up_diagram.proofs.covering.sends.Goals as goal

@@ -1,10 +1,10 @@
-use Rattle.std.proofs.Common.{◌≡◌, ◌∙◌, ◌<◌, ◌≤◌, ◌-◌, ◌+◌, ℕ, List, [], ◌∷◌, ◌++◌, length, get_or, set, take, refl, sym, ap, subst, arith, rules, below_more}
+use Rattle.std.proofs.Common.{◌≡◌, ◌∙◌, ◌<◌, ◌≤◌, ◌-◌, ◌+◌, ℕ, List, [], ◌∷◌, ◌++◌, length, set, take, refl, sym, ap, subst, arith, rules, below_more}
 use Rattle.std.specs.Prelude.{slice_index}
 use Rattle.std.proofs.lemmas.Grind.{take-set_at}
 use Rattle.std.proofs.lemmas.List.{length-take-le, length-set, take-set-le}
 use Rattle.fo_core.proofs.Answered.{always, never, false_from}
 use Rattle.up_diagram.specs.Cubes.{IsTrueFlat}
-use Rattle.up_diagram.specs.Trying.{Passes, PassesSoFar, MeetsFrom}
+use Rattle.up_diagram.specs.Trying.{MeetsFrom}
 use Rattle.up_diagram.proofs.Stepping.{all-done, one-more, values-more, from-more, last-of, none-serves, still-begins}
 use Rattle.up_diagram.proofs.Trials.{true-stable, cube-bounds}
 use Rattle.up_diagram.proofs.meeting.+fill.Goals as goal

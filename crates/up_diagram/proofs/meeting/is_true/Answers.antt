@@ -1,8 +1,5 @@
-use Rattle.std.proofs.Common.{◌≡◌, ◌∙◌, ◌<◌, [], ◌∷◌, length}
-use Rattle.std.specs.Prelude.{slice_index}
-use Rattle.std.specs.List.{All}
+use Rattle.std.proofs.Common.{◌<◌, [], ◌∷◌, length}
 use Rattle.fo_core.proofs.ListFacts.{all_left}
-use Rattle.up_diagram.specs.Trying.{most, bound}
 use Rattle.up_diagram.proofs.Bounds.{most-above}
 use Rattle.up_diagram.proofs.Covered.{last_of_all}
 use Rattle.up_diagram.proofs.Trials.{chosen-elements}

@@ -1,8 +1,8 @@
-use Rattle.std.proofs.Common.{◌≡◌, ◌∙◌, ◌<◌, [], length, take, arith}
+use Rattle.std.proofs.Common.{◌<◌}
 use Rattle.std.specs.Prelude.{slice_index}
-use Rattle.fo_core.proofs.Answered.{never, false_from, answered}
+use Rattle.fo_core.proofs.Answered.{never, false_from}
 use Rattle.up_diagram.specs.Cubes.{IsTrueFlat, Meets}
-use Rattle.up_diagram.proofs.Stepping.{none-yet, last-at-first}
+use Rattle.up_diagram.proofs.Stepping.{last-at-first}
 use Rattle.up_diagram.proofs.Trials.{true-stable}
 use Rattle.up_diagram.proofs.meeting.meets.Goals as goal
 
