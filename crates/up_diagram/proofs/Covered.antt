@@ -1,7 +1,7 @@
 -- What meets a cube meets each cube that covers it.
 use Rattle.std.proofs.Common.{◌≡◌, ℕ, zero, suc, ◌<◌, inl, inr, List, [], ◌∷◌, ◌++◌, length, get_or, map, refl, sym, ap, ap₂, subst, ◌∙◌, arith}
 use Rattle.std.specs.Prelude.{slice_index}
-use Rattle.std.specs.List.{All, Any, AllZip}
+use Rattle.std.specs.List.{All, AllZip}
 use Rattle.std.proofs.lemmas.List.Elements.{All-head, All-tail}
 use Rattle.fo_core.specs.declared.signature.Sig.{Sig}
 use Rattle.fo_core.specs.declared.world.World.{World}
@@ -12,7 +12,7 @@ use Rattle.fo_core.proofs.ListFacts.{all_left, all_right}
 use Rattle.up_diagram.specs.declared.cube.Flat.{Flat}
 use Rattle.up_diagram.specs.declared.cube.Flat.TheVariants.{Differ, Fact, Value}
 use Rattle.up_diagram.specs.declared.cube.Cube.{Cube}
-use Rattle.up_diagram.specs.Cubes.{chosen, HasSign, IsTrueFlat, Meets, HasSort, HasPlaces, variables_in, renamed}
+use Rattle.up_diagram.specs.Cubes.{chosen, HasSign, IsTrueFlat, Meets, HasSort, variables_in, renamed}
 use Rattle.up_diagram.specs.Covers.{IsAlike, HasLiteral, Covers}
 
 -- the element of a variable of d is that of its image

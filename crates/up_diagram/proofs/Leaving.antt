@@ -1,7 +1,7 @@
 -- A cube without a literal, and without the variables that then stand in none, covers the cube.
-use Rattle.std.proofs.Common.{◌≡◌, ℕ, zero, suc, true, false, Bool, ◌+◌, ◌<◌, ◌≤◌, inl, List, [], ◌∷◌, ◌++◌, length, get_or, map, take, drop, refl, sym, ap, ap₂, subst, ◌∙◌, arith}
+use Rattle.std.proofs.Common.{◌≡◌, ℕ, suc, true, ◌+◌, ◌<◌, ◌≤◌, inl, List, [], ◌∷◌, ◌++◌, length, get_or, map, take, drop, refl, sym, ap, ap₂, subst, ◌∙◌, arith}
 use Rattle.std.specs.Prelude.{slice_index, nat_eq}
-use Rattle.std.specs.List.{All, Any, AllZip, Contains, filter, list_any, range_with_len}
+use Rattle.std.specs.List.{All, AllZip, filter, list_any, range_with_len}
 use Rattle.std.proofs.lemmas.List.{get_or_default, length-map, map-append, map-id}
 use Rattle.std.proofs.lemmas.List.Elements.{All-append, All-take, All-drop, All-filter, All-head, All-tail}
 use Rattle.std.proofs.lemmas.List.FromFn.{length-range_with_len, get_or-range_with_len, take-map-range_with_len}
@@ -77,7 +77,7 @@ module _ (lits : List Flat) where
   is_of_one k lit lt i v less =
       let u = get_or (variables_in (get_or lits k lit)) i v in
       let stands : list_any (nat_eq u) (variables_in (get_or lits k lit)) ≡ true =
-          list_any-from_Any (nat_eq u) (variables_in (get_or lits k lit)) (i, u, less, get_or_default (variables_in (get_or lits k lit)) i u v less, nat_eq-self u) in
+      list_any-from_Any (nat_eq u) (variables_in (get_or lits k lit)) (i, u, less, get_or_default (variables_in (get_or lits k lit)) i u v less, nat_eq-self u) in
       list_any-from_Any (λ one. list_any (nat_eq u) (variables_in one)) lits (k, get_or lits k lit, lt, get_or_default lits k (get_or lits k lit) lit lt, stands)
 
 -- the variables that are kept have the sorts that are kept

@@ -1,9 +1,8 @@
 -- The sentences of a cube say that it is met, and that it isn't.
-use Rattle.std.proofs.Common.{◌≡◌, ℕ, zero, suc, true, false, Bool, cond, ◌↔◌, ◌+◌, ◌<◌, ◌⊎◌, inl, inr, List, [], ◌∷◌, ◌++◌, length, get_or, map, refl, sym, ap, subst, ◌∙◌, arith}
+use Rattle.std.proofs.Common.{◌≡◌, ℕ, true, false, Bool, cond, ◌↔◌, ◌+◌, ◌⊎◌, inl, inr, List, [], map, refl, sym, ap, subst, ◌∙◌}
 use Rattle.std.specs.Prelude.{slice_index}
-use Rattle.std.specs.List.{All, Any}
+use Rattle.std.specs.List.{All}
 use Rattle.fo_core.specs.declared.signature.Sig.{Sig}
-use Rattle.fo_core.specs.declared.term.Term.{Term}
 use Rattle.fo_core.specs.declared.term.Term.TheVariants as T
 use Rattle.fo_core.specs.declared.formula.Formula.{Formula}
 use Rattle.fo_core.specs.declared.formula.Formula.TheVariants as F
@@ -11,12 +10,11 @@ use Rattle.fo_core.specs.declared.world.World.{World}
 use Rattle.fo_core.specs.declared.world.Table.{Table}
 use Rattle.fo_core.specs.Tables.{symbol_at, table_of, entry, place, arg_sizes}
 use Rattle.fo_core.specs.Truth.{Truth, value}
-use Rattle.fo_core.specs.Runs.{AreElements}
 use Rattle.fo_core.proofs.Rows.{truth-Not, truth-And, truth-Or, value-App}
 use Rattle.fo_core.proofs.Binders.{all_over-from, all_over-to, some_over-from, some_over-to}
 use Rattle.fo_core.proofs.Decided.{tell}
 use Rattle.fo_core.proofs.Pieces.{map-map}
-use Rattle.fo_core.proofs.ListFacts.{cast, back, all_map, all_mapped, any_map, any_mapped, all_as, some_fails, not_all}
+use Rattle.fo_core.proofs.ListFacts.{cast, back, all_map, all_mapped, any_map, any_mapped, all_as, some_fails}
 use Rattle.up_diagram.specs.declared.cube.Flat.{Flat}
 use Rattle.up_diagram.specs.declared.cube.Flat.TheVariants.{Differ, Fact, Value}
 use Rattle.up_diagram.specs.declared.cube.Cube.{Cube}

@@ -1,17 +1,14 @@
 -- The sentences of a cube are well-sorted, and its clause is universal.
-use Rattle.std.proofs.Common.{◌≡◌, ℕ, zero, suc, true, false, not, Bool, cond, ◌+◌, ◌<◌, List, [], ◌∷◌, ◌++◌, length, get_or, map, refl, sym, ap, subst, ◌∙◌, arith}
+use Rattle.std.proofs.Common.{ℕ, true, false, Bool, cond, ◌+◌, ◌<◌, List, [], ◌∷◌, get_or, map, refl, arith}
 use Rattle.std.specs.Prelude.{slice_index}
 use Rattle.std.specs.List.{All, AllZip}
-use Rattle.std.proofs.lemmas.List.Elements.{All-nil, All-cons, All-head, All-tail}
 use Rattle.fo_core.specs.declared.signature.Sig.{Sig}
-use Rattle.fo_core.specs.declared.term.Term.{Term}
 use Rattle.fo_core.specs.declared.term.Term.TheVariants as T
-use Rattle.fo_core.specs.declared.formula.Formula.{Formula, Row_of-Formula, end_of-Formula, more_of-Formula}
+use Rattle.fo_core.specs.declared.formula.Formula.{Formula}
 use Rattle.fo_core.specs.declared.formula.Formula.TheVariants as F
 use Rattle.fo_core.specs.Tables.{symbol_at}
 use Rattle.fo_core.specs.Sorted.{IsSymbol, IsTerm, IsFormula}
-use Rattle.fo_core.specs.Over.{all_over}
-use Rattle.fo_core.specs.Universal.{IsUniversal, AreUniversal, IsUniversalSentence}
+use Rattle.fo_core.specs.Universal.{IsUniversal, IsUniversalSentence}
 use Rattle.fo_core.proofs.Rows.{sorted-Not, And-sorted, Or-sorted, App-sorted}
 use Rattle.fo_core.proofs.Binders.{all_over-sorted, some_over-sorted}
 use Rattle.fo_core.proofs.ListFacts.{back, all_mapped, all_as}

@@ -1,5 +1,5 @@
 -- The places of the used variables, read off marks, and the literals with these places.
-use Rattle.std.proofs.Common.{◌≡◌, ℕ, zero, suc, true, false, Bool, ◌+◌, ◌<◌, ◌≤◌, inl, inr, ◌⊎◌, List, [], ◌∷◌, ◌++◌, length, get_or, map, refl, sym, ap, ap₂, subst, ◌∙◌, arith}
+use Rattle.std.proofs.Common.{◌≡◌, ℕ, false, Bool, ◌+◌, ◌<◌, ◌≤◌, inl, inr, ◌⊎◌, List, [], ◌∷◌, length, get_or, map, ap, ap₂, ◌∙◌, arith}
 use Rattle.std.specs.Prelude.{slice_index, slice_index_or}
 use Rattle.std.specs.List.{All, filter, range_with_len}
 use Rattle.std.proofs.lemmas.List.{get_or_past, length-map, get_or-map}
@@ -9,7 +9,6 @@ use Rattle.fo_core.proofs.ListFacts.{all_left}
 use Rattle.fo_core.proofs.Pieces.{map-agree}
 use Rattle.up_diagram.specs.declared.cube.Flat.{Flat}
 use Rattle.up_diagram.specs.declared.cube.Flat.TheVariants.{Differ, Fact, Value}
-use Rattle.up_diagram.specs.declared.cube.Cube.{Cube}
 use Rattle.up_diagram.specs.Cubes.{variables_in, is_used, new_place, renamed}
 use Rattle.up_diagram.specs.Marks.{AreMarks, rank_among}
 use Rattle.up_diagram.proofs.Covered.{last_of_all}

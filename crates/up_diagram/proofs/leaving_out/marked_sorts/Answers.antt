@@ -1,6 +1,5 @@
-use Rattle.std.proofs.Common.{◌≡◌, ◌∙◌, ◌++◌, ◌∷◌, [], false, get_or, map, sym, ap}
+use Rattle.std.proofs.Common.{◌∙◌, ◌++◌, ◌∷◌, [], false, map, sym, ap}
 use Rattle.std.specs.Prelude.{slice_index, slice_index_or}
-use Rattle.std.specs.List.{filter, range_with_len}
 use Rattle.up_diagram.proofs.Places.{skips, map-keeps}
 use Rattle.up_diagram.proofs.leaving_out.marked_sorts.Goals as goal
 use Rattle.up_diagram.proofs.leaving_out.marked_sorts.Goals.{then-marks-v+in_ok-push, else-marks-v}

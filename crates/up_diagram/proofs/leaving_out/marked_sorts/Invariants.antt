@@ -1,4 +1,4 @@
-use Rattle.std.proofs.Common.{◌≡◌, ℕ, false, map, get_or}
+use Rattle.std.proofs.Common.{◌≡◌, false, map, get_or}
 use Rattle.std.specs.Prelude.{slice_index}
 use Rattle.std.specs.List.{filter, range_with_len}
 use Rattle.up_diagram.proofs.leaving_out.marked_sorts.Given as goal

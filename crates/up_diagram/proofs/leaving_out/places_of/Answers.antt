@@ -1,4 +1,4 @@
-use Rattle.std.proofs.Common.{◌≡◌, ◌∙◌, ◌+◌, ◌++◌, ◌∷◌, [], ℕ, false, sym, ap, ap₂, arith}
+use Rattle.std.proofs.Common.{◌∙◌, ◌+◌, ◌++◌, ◌∷◌, [], ℕ, false, sym, ap, ap₂, arith}
 use Rattle.std.specs.Prelude.{slice_index_or}
 use Rattle.fo_core.proofs.Pieces.{map_more}
 use Rattle.up_diagram.specs.Marks.{rank_among}

@@ -1,4 +1,4 @@
-use Rattle.std.proofs.Common.{◌≡◌, ◌∙◌, ◌<◌, ◌≤◌, ℕ, false, List, length, get_or, map, take, take_all, sym, ap, ap₂, subst, arith}
+use Rattle.std.proofs.Common.{◌≡◌, ◌∙◌, ◌<◌, ℕ, false, List, length, get_or, map, take_all, sym, ap, ap₂, subst, arith}
 use Rattle.std.specs.Prelude.{slice_index, slice_index_or}
 use Rattle.std.specs.List.{All, filter, range_with_len}
 use Rattle.up_diagram.specs.declared.cube.Flat.{Flat}
@@ -15,9 +15,9 @@ pub renamed-requires-clause-within : goal.renamed-requires-clause-within
 renamed-requires-clause-within c =
     let placed = ap (λ ms. map (rank_among ms) (range_with_len 0 (length ms))) c.as_slice.ensures.value in
     let count : length c.as_slice-in-each.result.now ≡ length c.args.sorts.now =
-        ap length c.as_slice-in-each.ensures.value
-        ∙ places-count c.in_ok-marks.marks.items c.in_ok-places.places.items (c.in_ok-places.ensures ∙ placed)
-        ∙ c.in_ok-marks.ensures.count in
+    ap length c.as_slice-in-each.ensures.value
+    ∙ places-count c.in_ok-marks.marks.items c.in_ok-places.places.items (c.in_ok-places.ensures ∙ placed)
+    ∙ c.in_ok-marks.ensures.count in
     subst (λ (lit : Flat). All (λ v. v < length c.as_slice-in-each.result.now) (variables_in lit)) (sym c.lit-item.is)
     (subst (λ many. All (λ v. v < many) (variables_in (get_or c.args.lits.now c.each.lit-index c.lit-item.result))) (sym count)
     (c.requires c.each.lit-index c.lit-item.result c.each-test.true))
