@@ -24,7 +24,8 @@ variables_of sizes (s ∷ ss) (x ∷ xs) = variable_of sizes s x ∷ variables_o
 
 -- variables i and j differ, where j is a later one of the same sort
 abbrev pub pair_at : List ℕ → ℕ → ℕ → List Flat
-pair_at sorts i j = cond (nat_lt i j && nat_eq (slice_index sorts i) (slice_index sorts j)) (Differ i j ∷ []) []
+pair_at sorts i j =
+    cond (nat_lt i j && nat_eq (slice_index sorts i) (slice_index sorts j)) (Differ i j ∷ []) []
 
 -- variable i and each later one of its sort differ
 abbrev pub differ_from : List ℕ → ℕ → List Flat
@@ -39,7 +40,8 @@ abbrev pub fact_of : Sig → World → ℕ → ℕ → List ℕ → Flat
 fact_of sig w c k xs =
     cond (symbol_at sig k).relation
     (Fact (nat_eq (entry sig w c k xs) 1) k (variables_of w.sizes (symbol_at sig k).args xs))
-    (Value k (variables_of w.sizes (symbol_at sig k).args xs) (variable_of w.sizes (symbol_at sig k).result (entry sig w c k xs)))
+    (Value k (variables_of w.sizes (symbol_at sig k).args xs)
+    (variable_of w.sizes (symbol_at sig k).result (entry sig w c k xs)))
 
 -- what the symbol says of all tuples, in lexicographic order
 abbrev pub facts_of : Sig → World → ℕ → ℕ → List Flat
@@ -49,7 +51,9 @@ facts_of sig w c k = map (fact_of sig w c k) (all_tuples (arg_sizes w.sizes (sym
 abbrev pub diagram : Sig → World → ℕ → Cube
 diagram sig w c = record {
   sorts = element_sorts w.sizes;
-  lits = differ (element_sorts w.sizes) ++ flat_map (facts_of sig w c) (range_with_len 0 (length sig.symbols));
+  lits =
+      differ (element_sorts w.sizes)
+      ++ flat_map (facts_of sig w c) (range_with_len 0 (length sig.symbols));
 }
 
 -- copy c of the world may be read, and its elements have numbers of 32 bits all together

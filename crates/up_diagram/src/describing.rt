@@ -118,7 +118,8 @@ impl Described<'_> {
         requires few { sum self.now.world.now.sizes < 2 ^ 32 }
         requires firsts { AreFirsts self.now.world.now.sizes self.now.firsts.now }
         requires elements { AreElements self.now.world.now.sizes elements.now sorts.now }
-        ensures { IfOk result (λ vs. vs ≡ variables_of self.now.world.now.sizes sorts.now elements.now) }
+        ensures { IfOk result
+            (λ vs. vs ≡ variables_of self.now.world.now.sizes sorts.now elements.now) }
     {
         let firsts = self.firsts;
         let mut list = Seq::new(alloc);
@@ -133,8 +134,10 @@ impl Described<'_> {
         requires describe { CanDescribe self.now.sig.now self.now.world.now self.now.copy }
         requires firsts { AreFirsts self.now.world.now.sizes self.now.firsts.now }
         requires within { symbol < length self.now.sig.now.symbols }
-        requires elements { AreElements self.now.world.now.sizes elements.now (symbol_at self.now.sig.now symbol).args }
-        ensures { IfOk result (λ lit. lit ≡ fact_of self.now.sig.now self.now.world.now self.now.copy symbol elements.now) }
+        requires elements { AreElements self.now.world.now.sizes elements.now
+            (symbol_at self.now.sig.now symbol).args }
+        ensures { IfOk result (λ lit. lit ≡
+            fact_of self.now.sig.now self.now.world.now self.now.copy symbol elements.now) }
     {
         let found = self.sig.symbols.at(symbol as usize);
         let value = self.world.value(self.sig, self.copy, symbol, elements);
@@ -151,7 +154,8 @@ impl Described<'_> {
         requires describe { CanDescribe self.now.sig.now self.now.world.now self.now.copy }
         requires firsts { AreFirsts self.now.world.now.sizes self.now.firsts.now }
         requires within { symbol < length self.now.sig.now.symbols }
-        ensures { OnOk result (lits.new ≡ lits.old ++ facts_of self.now.sig.now self.now.world.now self.now.copy symbol) }
+        ensures { OnOk result (lits.new ≡
+            lits.old ++ facts_of self.now.sig.now self.now.world.now self.now.copy symbol) }
     {
         let sorts = self.sig.symbols.at(symbol as usize).args.as_slice();
         let sizes = sizes_of(alloc, self.world.sizes.as_slice(), sorts)?;
@@ -164,9 +168,9 @@ impl Described<'_> {
 }
 
 /// The diagram of a copy of the world: the cube that says all of it (Robinson's diagram, of model
-/// theory). Its variables are the elements, sort by sort. Its literals say first that any two elements
-/// of one sort differ, and then for each symbol and each tuple of elements, in lexicographic order,
-/// whether the relation holds or which element is the function's value.
+/// theory). Its variables are the elements, sort by sort. Its literals say first that any two
+/// elements of one sort differ, and then for each symbol and each tuple of elements, in
+/// lexicographic order, whether the relation holds or which element is the function's value.
 ///
 /// The signature has to be well-sorted, the world to fit it and to have fewer than 2^32 elements in
 /// all ([`has_few_elements`]), and the copy to be there. The one error is out of memory.

@@ -1,4 +1,4 @@
-use crate::{Cube, Flat, Picks, claim, clause, covers, diagram, meets, without};
+use crate::{Cube, Flat, Picks, claim, clause, covers, diagram, has_few_elements, meets, without};
 use fo_core::{Formula, Seq, Sig, Symbol, Table, World};
 use std::alloc::{AllocError, Global};
 use std::test::Fail;
@@ -15,8 +15,8 @@ fn signature(alloc: Global) -> Result<Sig, AllocError> {
     Ok(Sig { sorts: 1, symbols })
 }
 
-/// A world of one copy in which these elements are held.
-fn world(alloc: Global, held: &[u32]) -> Result<World, AllocError> {
+/// A world of this size and of one copy in which these elements are held.
+fn world(alloc: Global, size: u32, held: &[u32]) -> Result<World, AllocError> {
     let mut copy = Seq::new(alloc);
     copy.push(Table {
         values: Seq::from_vec(held.to_vec(alloc)?),
@@ -24,7 +24,7 @@ fn world(alloc: Global, held: &[u32]) -> Result<World, AllocError> {
     let mut copies = Seq::new(alloc);
     copies.push(copy)?;
     Ok(World {
-        sizes: Seq::from_vec([held.len() as u32].to_vec(alloc)?),
+        sizes: Seq::from_vec([size].to_vec(alloc)?),
         fixed: Seq::new(alloc),
         copies,
     })
@@ -59,8 +59,8 @@ fn is_differ(lit: &Flat, first: u32, second: u32) -> bool {
 /// The diagram of the state of two held elements.
 fn both_held(alloc: Global) -> Result<Cube, AllocError> {
     let sig = signature(alloc)?;
-    let w = world(alloc, &[1, 1])?;
-    if !sig.is_well_sorted() || !w.fits(&sig) || w.copies.is_empty() {
+    let w = world(alloc, 2, &[1, 1])?;
+    if !sig.is_well_sorted() || !w.fits(&sig) || w.copies.is_empty() || !has_few_elements(&w) {
         return one_held(alloc);
     }
     diagram(alloc, &sig, &w, 0)
@@ -110,10 +110,10 @@ fn literals_are_left_out(rt: HostRuntime) -> Result<(), Fail> {
     Ok(())
 }
 
-/// Whether the world of these held elements meets the cube.
-fn is_met(alloc: Global, held: &[u32], cube: &Cube) -> Result<bool, AllocError> {
+/// Whether the world of this size and these held elements meets the cube.
+fn is_met(alloc: Global, size: u32, held: &[u32], cube: &Cube) -> Result<bool, AllocError> {
     let sig = signature(alloc)?;
-    let w = world(alloc, held)?;
+    let w = world(alloc, size, held)?;
     if !sig.is_well_sorted() || !w.fits(&sig) || w.copies.is_empty() || !cube.is_well_sorted(&sig) {
         return Ok(false);
     }
@@ -128,10 +128,10 @@ fn is_met(alloc: Global, held: &[u32], cube: &Cube) -> Result<bool, AllocError> 
 fn states_meet_cubes(rt: HostRuntime) -> Result<(), Fail> {
     let alloc = rt.alloc();
     let cube = both_held(alloc)?;
-    assert!(rt; is_met(alloc, &[1, 1], &cube)?);
-    assert!(rt; is_met(alloc, &[1, 0, 1], &cube)?);
-    assert!(rt; !is_met(alloc, &[1, 0, 0], &cube)?);
-    assert!(rt; is_met(alloc, &[1, 0, 0], &one_held(alloc)?)?);
+    assert!(rt; is_met(alloc, 2, &[1, 1], &cube)?);
+    assert!(rt; is_met(alloc, 3, &[1, 0, 1], &cube)?);
+    assert!(rt; !is_met(alloc, 3, &[1, 0, 0], &cube)?);
+    assert!(rt; is_met(alloc, 3, &[1, 0, 0], &one_held(alloc)?)?);
     Ok(())
 }
 
