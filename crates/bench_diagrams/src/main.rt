@@ -4,7 +4,6 @@
 //! the one covers that of the other.
 #![tactic(auto)]
 
-ghost use Rattle.std.specs.Prelude.{length};
 ghost use Rattle.fo_embed.specs.Compared.{CanCompare};
 ghost use Rattle.up_diagram.specs.Cubes.{HasPlaces};
 ghost use Rattle.up_diagram.specs.Trying.{CanMeet};

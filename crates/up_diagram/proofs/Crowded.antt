@@ -11,7 +11,7 @@ use Rattle.std.proofs.lemmas.List.FromFn.{length-range_with_len}
 use Rattle.std.proofs.lemmas.Map.Made.{length-le_from_is_member}
 use Rattle.fo_core.specs.declared.signature.Sig.{Sig}
 use Rattle.fo_core.specs.declared.world.World.{World}
-use Rattle.fo_core.proofs.ListFacts.{all_mapped, all_range}
+use Rattle.fo_core.proofs.ListFacts.{all_mapped}
 use Rattle.fo_core.proofs.Pieces.{Contains-filter, range-Contains}
 use Rattle.fo_core.proofs.Zips.{AllZip-at, AllZip-length}
 use Rattle.up_diagram.specs.declared.cube.Flat.{Flat}
@@ -20,6 +20,7 @@ use Rattle.up_diagram.specs.Cubes.{IsTrueFlat, HasSort}
 use Rattle.up_diagram.specs.Covers.{HasLiteral, IsAlike}
 use Rattle.up_diagram.specs.Trying.{HoldsFrom, BecomesOne}
 use Rattle.up_diagram.specs.Crowds.{of_sort, AreTooMany, IsProper}
+use Rattle.up_diagram.proofs.Places.{below}
 
 -- values of the numbers that pass, where any two of these have different ones
 module _ (p : ℕ → Bool) (f : ℕ → ℕ) (n : ℕ) (apart : (i j : ℕ) → i < j → j < n → p i ≡ true → p j ≡ true → ¬ (f i ≡ f j)) where
@@ -52,9 +53,6 @@ few xs room distinct all = length-le_from_is_member nat_eq_equiv xs room distinc
         let there = all found.0 found.1 found.2 in
         let same : q ≡ get_or xs found.0 found.1 = eqb-true q found.1 found.4 ∙ sym found.3 in
         list_any-from_Any (nat_eq q) room (there.0, get_or xs found.0 found.1, there.1, there.2, eq-eqb q (get_or xs found.0 found.1) same)
-
-below : (n : ℕ) → All (λ v. v < n) (range_with_len 0 n)
-below n = all_range (λ v. v < n) n (λ k lt. lt)
 
 module _ (Serves : ℕ → ℕ → Type 0) (Holds : List ℕ → Flat → Type 0) (sorts : List ℕ) (lits : List Flat)
     (differ : (ys : List ℕ) (i j : ℕ) → Holds ys (Differ i j) → ¬ (slice_index ys i ≡ slice_index ys j))

@@ -9,13 +9,14 @@ use Rattle.std.proofs.lemmas.Bool.{eq-eqb}
 use Rattle.std.proofs.lemmas.List.Folds.{list_any-from_Any}
 use Rattle.fo_core.specs.declared.signature.Sig.{Sig}
 use Rattle.fo_core.specs.declared.world.World.{World}
-use Rattle.fo_core.proofs.ListFacts.{all_mapped, all_left, all_range}
+use Rattle.fo_core.proofs.ListFacts.{all_mapped, all_left}
 use Rattle.fo_core.proofs.TableLemmas.{filtered_at}
 use Rattle.up_diagram.specs.declared.cube.Flat.{Flat}
 use Rattle.up_diagram.specs.declared.cube.Flat.TheVariants.{Differ, Fact, Value}
 use Rattle.up_diagram.specs.declared.cube.Cube.{Cube}
 use Rattle.up_diagram.specs.Cubes.{Meets, HasSort, HasPlaces, variables_in, is_used, new_place, renamed, tightened, without}
 use Rattle.up_diagram.specs.Covers.{IsAlike, HasLiteral, Covers}
+use Rattle.up_diagram.proofs.Places.{below}
 use Rattle.up_diagram.proofs.Covered.{covers_meets, last_of_all}
 
 -- lists of numbers
@@ -25,9 +26,6 @@ map_back f g (v ∷ vs) h = ap₂ (λ u us. u ∷ us) (All-head (λ v. f (g v) �
 
 take_range : (v n : ℕ) → v ≤ n → take v (range_with_len 0 n) ≡ range_with_len 0 v
 take_range v n le = ap (take v) (sym (map-id (range_with_len 0 n))) ∙ take-map-range_with_len (λ k. k) 0 n v le ∙ map-id (range_with_len 0 v)
-
-below : (n : ℕ) → All (λ v. v < n) (range_with_len 0 n)
-below n = all_range (λ v. v < n) n (λ k lt. lt)
 
 nat_eq-self : (v : ℕ) → nat_eq v v ≡ true
 nat_eq-self v = eq-eqb v v refl

@@ -1,9 +1,13 @@
 -- The numbers below a bound that pass a test, and how many there are.
 use Rattle.std.proofs.Common.{◌≡◌, ℕ, zero, suc, true, false, Bool, cond, ◌+◌, ◌<◌, ◌≤◌, [], ◌∷◌, ◌++◌, length, map, refl, sym, ap, subst, ◌∙◌, arith, append-nil}
-use Rattle.std.specs.List.{filter, range_with_len}
+use Rattle.std.specs.List.{All, filter, range_with_len}
 use Rattle.std.proofs.lemmas.List.{map-append, length_push}
 use Rattle.std.proofs.lemmas.List.Elements.{filter-append}
+use Rattle.fo_core.proofs.ListFacts.{all_range}
 use Rattle.fo_core.proofs.Pieces.{range-more}
+
+pub below : (n : ℕ) → All (λ v. v < n) (range_with_len 0 n)
+below n = all_range (λ v. v < n) n (λ k lt. lt)
 
 module _ (p : ℕ → Bool) (n : ℕ) where
   passing-more : filter p (range_with_len 0 (n + 1)) ≡ filter p (range_with_len 0 n) ++ cond (p n) (n ∷ []) []
