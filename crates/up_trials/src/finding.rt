@@ -24,8 +24,8 @@ fn apart(alloc: Global, count: u32, all_held: bool) -> Result<Seq<Formula>, Allo
     Ok(parts)
 }
 
-/// A system whose property is that there are no `count` different elements, where `all_held` such as
-/// the relation holds of. Where `empty`, it holds of none at first.
+/// A system whose property is that there are no `count` different elements, of which the relation
+/// holds where `all_held`. Where `empty`, it holds of none at first.
 fn bounded(alloc: Global, empty: bool, count: u32, all_held: bool) -> Result<System, AllocError> {
     let mut inits = Seq::new(alloc);
     if empty {
