@@ -8,6 +8,10 @@ use Rattle.fo_core.specs.Embedding.{IsEmbedding, image}
 use Rattle.fo_core.specs.SortGraph.{ComesFirst}
 use Rattle.fo_embed.specs.Placing.{IsPart, AllAgree, images_of}
 
+-- no sort of the one world has more elements than that of the other
+abbrev pub AreNoLarger : List ℕ → List ℕ → Type 0
+AreNoLarger from to = (s : ℕ) → s < length from → slice_index from s ≤ slice_index to s
+
 -- all elements of the sorts before s have images, and none of those behind it
 pub record IsFilledTo (sizes : List ℕ) (maps : List (List ℕ)) (s : ℕ) : Type 0 where
   pub full : (t : ℕ) → t < s → length (images_of maps t) ≡ slice_index sizes t

@@ -3,13 +3,26 @@ ghost use Rattle.std.specs.List.{Contains};
 ghost use Rattle.fo_core.specs.Embedding.{IsEmbedding};
 ghost use Rattle.fo_embed.specs.Compared.{CanCompare, IsFirstEmbedding};
 ghost use Rattle.fo_embed.specs.Placing.{IsPart, AllAgree, with_image};
-ghost use Rattle.fo_embed.specs.Searching.{IsBegun, IsFirstBehind, HasNoneBehind, HasNoneWith};
+ghost use Rattle.fo_embed.specs.Searching.{AreNoLarger, IsBegun, IsFirstBehind, HasNoneBehind, HasNoneWith};
 
 use crate::agree::{States, all_agree};
 use crate::map::Map;
 use fo_core::{Seq, Sig, World};
 use std::alloc::{AllocError, Global};
 use std::mem;
+
+/// Whether no sort has more elements in the one world than in the other.
+fn are_no_larger(from: &[u32], to: &[u32]) -> bool
+    requires { length to.now ≡ length from.now }
+    ensures { IsTrue result ↔ AreNoLarger from.now to.now }
+{
+    'each: for s in 0..from.len() {
+        if from[s] > to[s] {
+            return false;
+        }
+    }
+    true
+}
 
 /// Whether the number is one of these.
 fn is_among(images: &[u32], image: u32) -> bool
@@ -94,7 +107,8 @@ fn place(
 /// lexicographic order of the images, sort by sort, or None where there is no embedding.
 ///
 /// It asks for what [`is_embedding`](crate::is_embedding) asks. An element is given an image only
-/// where all tables agree on the elements that have one so far. The one error is out of memory.
+/// where all tables agree on the elements that have one so far, and none is tried where a sort of
+/// the world `s` is larger than that of `t`. The one error is out of memory.
 pub fn find_embedding(
     alloc: Global,
     sig: &Sig,
@@ -113,6 +127,9 @@ pub fn find_embedding(
         to: t,
         to_copy: tc as usize,
     };
+    if !are_no_larger(s.sizes.as_slice(), t.sizes.as_slice()) {
+        return Ok(None);
+    }
     let mut maps = Vec::new(alloc);
     'each: for _i in 0..s.sizes.len() {
         maps.push(Seq::new(alloc))?;

@@ -1,0 +1,12 @@
+pub mod Bounds
+pub mod Covered
+pub mod Described
+pub mod DiagramMet
+pub mod Leaving
+pub mod Places
+pub mod Said
+pub mod Sentences
+pub mod Stepping
+pub mod Tightening
+pub mod Trials
+pub mod UniversalRows
