@@ -6,6 +6,7 @@ pub mod CountLemmas
 pub mod CubeClaims
 pub mod Decided
 pub mod EdgeRows
+pub mod ElementLemmas
 pub mod FewerLiterals
 pub mod GrowingCounts
 pub mod GrowingWeight

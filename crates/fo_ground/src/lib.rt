@@ -25,6 +25,3 @@ pub use fo_terms::weight;
 pub use grounded::{Atom, Grounded};
 pub use grounding::ground;
 pub use world::world_of;
-
-#[cfg(test)]
-mod tests;

@@ -10,7 +10,8 @@ use Rattle.fo_core.specs.declared.world.World.{World}
 use Rattle.fo_core.specs.Queries.{IsQuery}
 use Rattle.fo_core.specs.Sorted.{IsSig}
 use Rattle.fo_core.specs.Asked.{AreNextSizes}
-use Rattle.fo_least.proofs.Isomorphic.{IsApart, sort_known}
+use Rattle.fo_core.proofs.ElementLemmas.{sort_known}
+use Rattle.fo_least.proofs.Isomorphic.{IsApart}
 use Rattle.fo_least.proofs.Naming.{IsNaming, MeetsTrial}
 use Rattle.fo_least.proofs.NextLemmas.{joined, joined-naming, can_try_size}
 use Rattle.fo_least.proofs.TrialMeaning.{trial_means}

@@ -22,14 +22,7 @@ use Rattle.fo_core.specs.Least.{world_values}
 use Rattle.fo_least.proofs.CellLemmas.{IsCell}
 use Rattle.fo_least.proofs.CellValues.{entry_at, value-at, values-length, cell-found, entry-below}
 use Rattle.fo_least.proofs.Naming.{IsNaming, named, named_value, IsEntry, MeetsTrial}
-
--- a sort that has an element is one of the sorts
-pub sort_known : (sizes : List ℕ) (s x : ℕ) → x < slice_index sizes s → s < length sizes
-sort_known sizes s x lt = by_case (cases_lt s (length sizes))
-  where
-    by_case : (s < length sizes) ⊎ (length sizes ≤ s) → s < length sizes
-    by_case (inl h) = h
-    by_case (inr h) = absurd (omega (arith, get_or_past sizes s 0 h))
+use Rattle.fo_core.proofs.ElementLemmas.{sort_known}
 
 -- one more element after some
 pub elements-push : (sizes xs ss : List ℕ) (x s : ℕ) → AreElements sizes xs ss → x < slice_index sizes s → AreElements sizes (xs ++ x ∷ []) (ss ++ s ∷ [])

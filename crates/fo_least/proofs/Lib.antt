@@ -4,7 +4,6 @@ pub mod Beginnings
 pub mod CellLemmas
 pub mod CellValues
 pub mod Determined
-pub mod ElementLemmas
 pub mod Injective
 pub mod Isomorphic
 pub mod Itself

@@ -22,7 +22,7 @@ use Rattle.fo_core.specs.Asked.{no_cell}
 use Rattle.fo_core.specs.Cells.{cells}
 use Rattle.fo_core.specs.Trials.{element_sorts, cover, covers, has_value, have_values, claim_of, trial}
 use Rattle.fo_least.proofs.CellLemmas.{IsCell, cells-at}
-use Rattle.fo_least.proofs.ElementLemmas.{sorts-known, name_list, names-at, names-elements, value-within, values-count}
+use Rattle.fo_core.proofs.ElementLemmas.{sorts-known, name_list, names-at, names-elements, value-within, values-count}
 use Rattle.fo_core.proofs.Binders.{some_over-from, some_over-to, some_over-sorted}
 use Rattle.fo_core.proofs.ListFacts.{any_append, any_one, all_left, all_right, all_map, all_mapped, all_range, range_all}
 use Rattle.fo_least.proofs.Naming.{IsNaming, IsEntry, HasValues, CanTry, MeetsTrial}

@@ -16,7 +16,7 @@ use Rattle.fo_core.proofs.Rows.{sorted-Not, sorted-All, Or-sorted, App-sorted}
 use Rattle.fo_core.specs.declared.cell.Cell.{Cell}
 use Rattle.fo_core.specs.Trials.{element_sorts, element, cover, covers, elements, has_value}
 use Rattle.fo_least.proofs.CellLemmas.{IsCell, cell-symbol}
-use Rattle.fo_least.proofs.ElementLemmas.{place-below, sorts-length, sorts-at}
+use Rattle.fo_core.proofs.ElementLemmas.{place-below, sorts-length, sorts-at}
 use Rattle.fo_core.proofs.ListFacts.{back, all_mapped, all_range}
 
 module _ (sig : Sig) (n : ℕ) (sizes : List ℕ) where

@@ -20,7 +20,7 @@ use Rattle.fo_core.specs.declared.cell.Cell.{Cell}
 use Rattle.fo_core.specs.Asked.{no_cell}
 use Rattle.fo_core.specs.Trials.{element, cover, elements, has_value, have_values}
 use Rattle.fo_least.proofs.CellLemmas.{IsCell, cell-symbol}
-use Rattle.fo_least.proofs.ElementLemmas.{place-below}
+use Rattle.fo_core.proofs.ElementLemmas.{place-below}
 use Rattle.fo_core.proofs.ListFacts.{cast, back, any_map, any_mapped, any_range, range_any}
 use Rattle.fo_least.proofs.Naming.{IsNaming, named, IsEntry}
 

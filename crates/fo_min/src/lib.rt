@@ -11,6 +11,3 @@ mod world;
 pub use found::{Excess, Least};
 pub use laws::{one_answer_of_least, one_excess};
 pub use search::least;
-
-#[cfg(test)]
-mod tests;

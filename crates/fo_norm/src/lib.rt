@@ -5,8 +5,6 @@ mod form;
 mod norm;
 mod scope;
 mod terms;
-#[cfg(test)]
-mod tests;
 
 pub use form::SkolemForm;
 pub use norm::normal;

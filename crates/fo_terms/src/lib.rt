@@ -6,8 +6,6 @@ mod counting;
 mod ranking;
 mod symbols;
 mod terms;
-#[cfg(test)]
-mod tests;
 mod weighing;
 
 pub use build::{universe, universe_from};

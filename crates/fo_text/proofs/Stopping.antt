@@ -1,12 +1,12 @@
 -- From exact readers to what they say of the bytes.
-use Rattle.std.proofs.Common.{◌≡◌, ℕ, ◌+◌, ◌-◌, ◌<◌, ◌≤◌, List, [], ◌∷◌, ◌++◌, length, take, Ok, Err, Result, Bor, refl, sym, ap, ◌∙◌, append_assoc, length-append, arith}
+use Rattle.std.proofs.Common.{◌≡◌, ℕ, ◌+◌, ◌-◌, ◌<◌, List, [], ◌∷◌, ◌++◌, length, take, Ok, Err, Result, Bor, refl, sym, ap, ◌∙◌, append_assoc, length-append, arith}
 use Rattle.std.specs.Prelude.{IfOk, IfErr}
 use Rattle.std.proofs.lemmas.List.{append-nil, take_at}
 use Rattle.fo_text.specs.declared.halt.Halt.{Halt}
 use Rattle.fo_text.specs.declared.halt.Halt.TheVariants.{Memory, Fault}
 use Rattle.fo_text.specs.Parts.{StartsWith, IsBetween, number_text, HasNumber, BeginsNumber, StopsBefore, HasPlace, IsOk, IsStop}
 use Rattle.fo_text.specs.Reading.{Read, Gives, ◌>>=◌, literal_at, number_at}
-use Rattle.fo_text.proofs.Exact.{ok_is, Exact, FailsBehind, IsFault, exact_done, exact_after}
+use Rattle.fo_text.proofs.Exact.{ok_is, Exact, FailsBehind, exact_done, exact_after}
 use Rattle.fo_text.proofs.Numbers.{Bounds, exact_number}
 
 module _ {A : Type 0} (Fits : A → Type 0) (text : A → List ℕ) (read : List ℕ → Read A) (exact : Exact Fits text read) where

@@ -15,6 +15,3 @@ pub use halt::Halt;
 pub use parts::{literal, number};
 pub use read::world_read;
 pub use writing::world_text;
-
-#[cfg(test)]
-mod tests;

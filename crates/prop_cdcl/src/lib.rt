@@ -11,6 +11,3 @@ mod solver;
 mod trail;
 
 pub use solver::solve;
-
-#[cfg(test)]
-mod tests;

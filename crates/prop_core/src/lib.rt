@@ -12,6 +12,3 @@ pub use answer::{Answer, Refutation};
 pub use clause::Clause;
 pub use cnf::{Cnf, copy_clauses};
 pub use lit::Lit;
-
-#[cfg(test)]
-mod tests;

@@ -4,6 +4,3 @@
 mod search;
 
 pub use search::{go_on, solve};
-
-#[cfg(test)]
-mod tests;

@@ -11,6 +11,3 @@ mod walks;
 
 pub use fo_core::{Order, Purpose};
 pub use strat::{StratFault, order};
-
-#[cfg(test)]
-mod tests;

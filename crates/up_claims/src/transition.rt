@@ -5,9 +5,7 @@ ghost use Rattle.fo_core.specs.declared.term.Term.TheVariants.{App};
 ghost use Rattle.up_claims.specs.Transitions.{same_truth as same_truth_of, same_value as same_value_of, same as same_of, keeps as keeps_of, kept_below, is_kept as is_kept_of, transition_claim as transition_claim_of, any_transition as any_transition_of};
 ghost use Rattle.fo_core.specs.Over.{all_over as all_over_of, some_over as some_over_of, variables as variables_of};
 
-use fo_core::{
-    Formula, Seq, Sig, Step, Symbol, System, Term, all_over, some_over, variables,
-};
+use fo_core::{Formula, Seq, Sig, Step, Symbol, System, Term, all_over, some_over, variables};
 use std::alloc::{AllocError, Global};
 
 /// The relation of the variables from this number on, in this copy.

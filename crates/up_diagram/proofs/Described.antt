@@ -16,7 +16,7 @@ use Rattle.fo_core.proofs.PlaceLemmas.{elements-below, sort_count, sort_within}
 use Rattle.fo_core.proofs.TupleLemmas.{tuples-below}
 use Rattle.fo_core.proofs.Zips.{AllZip-at}
 use Rattle.fo_core.proofs.TableLemmas.{table_is, place-lt}
-use Rattle.fo_least.proofs.ElementLemmas.{place-below}
+use Rattle.fo_core.proofs.ElementLemmas.{place-below}
 use Rattle.up_diagram.specs.Diagrams.{variable_of, variables_of, CanDescribe, AreFirsts}
 
 -- one block more

@@ -17,8 +17,7 @@ use Rattle.fo_core.specs.Tuples.{all_tuples}
 use Rattle.fo_core.proofs.ListFacts.{all_left, all_right, all_map, all_mapped, all_flat, all_range, range_all, all_as}
 use Rattle.fo_core.proofs.PlaceLemmas.{elements-below}
 use Rattle.fo_core.proofs.TupleLemmas.{tuples-below, tuple-found}
-use Rattle.fo_least.proofs.ElementLemmas.{place-below, sorts-length, sorts-at, name_list, names-at, names-elements, value-within}
-use Rattle.fo_least.proofs.Isomorphic.{sort_known}
+use Rattle.fo_core.proofs.ElementLemmas.{sort_known, place-below, sorts-length, sorts-at, name_list, names-at, names-elements, value-within}
 use Rattle.up_diagram.specs.declared.cube.Flat.{Flat}
 use Rattle.up_diagram.specs.declared.cube.Flat.TheVariants.{Differ, Fact, Value}
 use Rattle.up_diagram.specs.Cubes.{chosen, HasSign, IsTrueFlat, Meets}

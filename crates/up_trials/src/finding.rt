@@ -24,20 +24,16 @@ fn apart(alloc: Global, count: u32, all_held: bool) -> Result<Seq<Formula>, Allo
     Ok(parts)
 }
 
-/// A system whose property is that there aren't as many different elements as `sorts` has members,
-/// where `all_held` such as the relation holds of. Where `empty`, it holds of none at first.
-fn bounded(
-    alloc: Global,
-    empty: bool,
-    sorts: &[u32],
-    all_held: bool,
-) -> Result<System, AllocError> {
+/// A system whose property is that there are no `count` different elements, of which the relation
+/// holds where `all_held`. Where `empty`, it holds of none at first.
+fn bounded(alloc: Global, empty: bool, count: u32, all_held: bool) -> Result<System, AllocError> {
     let mut inits = Seq::new(alloc);
     if empty {
         inits.push(all_over(alloc, &[0], not_held(alloc, 0)?)?)?;
     }
-    let many = Formula::And(apart(alloc, sorts.len() as u32, all_held)?);
-    let safety = Formula::not(alloc, some_over(alloc, sorts, many)?)?;
+    let many = Formula::And(apart(alloc, count, all_held)?);
+    let sorts = vec![in alloc; 0u32; count as usize]?;
+    let safety = Formula::not(alloc, some_over(alloc, sorts.as_slice(), many)?)?;
     system(alloc, inits, safety)
 }
 
@@ -66,7 +62,7 @@ fn elements(found: &Found) -> u32 {
 #[test]
 fn two_of_none_are_not_found(rt: HostRuntime) -> Result<(), Fail> {
     let alloc = rt.alloc();
-    let sys = bounded(alloc, true, &[0, 0], true)?;
+    let sys = bounded(alloc, true, 2, true)?;
     let found = answer(&rt, alloc, &mut Engine::new(27), &sys)?;
     assert!(rt; matches!(found, Found::Nothing));
     let mut engine = Engines { limit: 26 }.one(alloc)?;
@@ -78,7 +74,7 @@ fn two_of_none_are_not_found(rt: HostRuntime) -> Result<(), Fail> {
 #[test]
 fn five_different_elements_are_found(rt: HostRuntime) -> Result<(), Fail> {
     let alloc = rt.alloc();
-    let sys = bounded(alloc, false, &[0; 5], false)?;
+    let sys = bounded(alloc, false, 5, false)?;
     let found = answer(&rt, alloc, &mut Engine::new(MOST_WEIGHT), &sys)?;
     let query = Query {
         copies: 1,
@@ -104,8 +100,8 @@ fn recorded(rt: &impl Abort, alloc: Global, sys: &System) -> Result<Recorded, Fa
 #[test]
 fn kept_answers_are_those_of_an_engine(rt: HostRuntime) -> Result<(), Fail> {
     let alloc = rt.alloc();
-    let three = bounded(alloc, false, &[0; 3], true)?;
-    let none = bounded(alloc, true, &[0; 2], true)?;
+    let three = bounded(alloc, false, 3, true)?;
+    let none = bounded(alloc, true, 2, true)?;
     let mut finder = recorded(&rt, alloc, &three)?;
     // Another system's query is answered anew, and leaves what is kept.
     assert!(rt; matches!(answer(&rt, alloc, &mut finder, &none)?, Found::Nothing));

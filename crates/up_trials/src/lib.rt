@@ -1,10 +1,32 @@
-//! Tests of calls of several library crates: those that need a crate which the called one doesn't
-//! stand on. It has nothing but tests.
+//! Tests of library calls that no case of the top call shows. They stand here and not in the crates of
+//! the calls, since a crate with tests is proved twice. This crate has nothing but tests.
 #![tactic(auto)]
 
+#[cfg(test)]
+mod clause_learning;
+#[cfg(test)]
+mod clauses;
 #[cfg(test)]
 mod finding;
 #[cfg(test)]
 mod formulas;
 #[cfg(test)]
+mod ground_terms;
+#[cfg(test)]
+mod grounded_forms;
+#[cfg(test)]
 mod grounding;
+#[cfg(test)]
+mod least_worlds;
+#[cfg(test)]
+mod orders;
+#[cfg(test)]
+mod plain_search;
+#[cfg(test)]
+mod propagation;
+#[cfg(test)]
+mod skolem_forms;
+#[cfg(test)]
+mod unrollings;
+#[cfg(test)]
+mod world_texts;

@@ -6,6 +6,3 @@ mod unrolling;
 
 pub use laws::one_answer_of_unroll;
 pub use unrolling::{Unrolled, unroll};
-
-#[cfg(test)]
-mod tests;

@@ -1,6 +1,6 @@
 use Rattle.std.proofs.Common.{◌≡◌, ◌∙◌, ap, arith, length, sum}
 use Rattle.fo_core.specs.Trials.{element_sorts}
-use Rattle.fo_least.proofs.ElementLemmas.{sorts-length}
+use Rattle.fo_core.proofs.ElementLemmas.{sorts-length}
 use Rattle.up_diagram.specs.Diagrams.{differ, facts_of}
 use Rattle.up_diagram.proofs.Described.{flat-step, sorts-few}
 use Rattle.up_diagram.proofs.describing.diagram.Goals as goal

@@ -1,5 +1,5 @@
-use crate::{Purpose, StratFault, order};
 use fo_core::{Formula, Seq, Sig, Symbol, System, Term, all_over, some_over, variables};
+use pyv_strat::{Purpose, StratFault, order};
 use std::alloc::{AllocError, Global};
 use std::test::Fail;
 

@@ -1,5 +1,5 @@
-use crate::{TextFault, world_read, world_text};
 use fo_core::{Names, Seq, Sig, Symbol, Table, Text, World};
+use fo_text::{TextFault, world_read, world_text};
 use std::alloc::{AllocError, Global};
 use std::test::Fail;
 

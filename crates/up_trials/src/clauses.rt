@@ -1,5 +1,5 @@
-use crate::{Answer, Clause, Cnf, Lit, Refutation};
 use fo_core::Seq;
+use prop_core::{Answer, Clause, Cnf, Lit, Refutation};
 use std::test::Fail;
 
 fn lit(var: u32, positive: bool) -> Lit {

@@ -1,8 +1,9 @@
 -- The variables that name elements: of which sorts they are, and where their values stand.
-use Rattle.std.proofs.Common.{◌≡◌, ℕ, zero, suc, ◌+◌, ◌<◌, ◌≤◌, List, [], ◌∷◌, ◌++◌, length, get_or, map, take, refl, sym, ap, subst, ◌∙◌, arith, length-append, add-one, sum}
+use Rattle.std.proofs.Common.{◌≡◌, ℕ, zero, suc, ◌+◌, ◌<◌, ◌≤◌, ◌⊎◌, inl, inr, List, [], ◌∷◌, ◌++◌, length, get_or, map, take, refl, sym, ap, subst, ◌∙◌, arith, length-append, add-one, sum}
 use Rattle.std.specs.Prelude.{slice_index, replicate}
 use Rattle.std.specs.List.{All, flat_map, range_with_len}
-use Rattle.std.proofs.lemmas.List.{take_more, take_all, length-replicate, get_or-replicate}
+use Rattle.std.proofs.lemmas.Bool.{cases_lt}
+use Rattle.std.proofs.lemmas.List.{take_more, take_all, length-replicate, get_or-replicate, get_or_past}
 use Rattle.std.proofs.lemmas.List.Concat.{flat_map-append, get_or-flat_map}
 use Rattle.std.proofs.lemmas.List.Elements.{All-replicate}
 use Rattle.std.proofs.lemmas.List.FromFn.{length-range_with_len, get_or-range_with_len, length-map-range_with_len, get_or-map-range_with_len}
@@ -103,3 +104,11 @@ module _ (sizes : List ℕ) where
 
   pub values-count : (w : World) (vs : List ℕ) → AreElements w.sizes vs (element_sorts sizes) → length vs ≡ sum sizes
   values-count w vs elements = AllZip-length (λ y s. y < slice_index w.sizes s) vs (element_sorts sizes) elements ∙ sorts-length
+
+-- a sort that has an element is one of the sorts
+pub sort_known : (sizes : List ℕ) (s x : ℕ) → x < slice_index sizes s → s < length sizes
+sort_known sizes s x lt = by_case (cases_lt s (length sizes))
+  where
+    by_case : (s < length sizes) ⊎ (length sizes ≤ s) → s < length sizes
+    by_case (inl h) = h
+    by_case (inr h) = absurd (omega (arith, get_or_past sizes s 0 h))

@@ -1,5 +1,5 @@
-use crate::{SkolemForm, normal};
 use fo_core::{Formula, Query, Seq, Sig, Symbol, all_over, some_over, variables};
+use fo_norm::{SkolemForm, normal};
 use std::alloc::{AllocError, Global};
 use std::process::Abort;
 use std::test::Fail;

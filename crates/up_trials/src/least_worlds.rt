@@ -1,5 +1,5 @@
-use crate::{Excess, Least};
 use fo_core::{Query, Seq};
+use fo_min::{Excess, Least};
 use std::test::Fail;
 
 #[test]

@@ -1,9 +1,9 @@
 ghost use Rattle.std.specs.Prelude.{◌≤◌};
 
-use crate::{go_on, solve};
 use fo_core::Seq;
 use prop_check::Checked;
 use prop_core::{Answer, Clause, Cnf, Lit};
+use prop_plain::{go_on, solve};
 use std::alloc::{AllocError, Global};
 use std::test::Fail;
 

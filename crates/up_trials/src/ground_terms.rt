@@ -1,8 +1,8 @@
-use crate::{Universe, counts, rises, universe_from, weight};
 use fo_core::{
     Formula, MOST_WEIGHT, Order, Query, Seq, Sig, Symbol, Term, all_over, some_over, variables,
 };
 use fo_norm::normal;
+use fo_terms::{Universe, counts, rises, universe_from, weight};
 use std::alloc::{AllocError, Global};
 use std::process::Abort;
 use std::test::Fail;

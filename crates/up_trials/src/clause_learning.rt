@@ -1,7 +1,7 @@
 ghost use Rattle.std.specs.Prelude.{◌<◌};
 
-use crate::solve;
 use fo_core::Seq;
+use prop_cdcl::solve;
 use prop_core::{Answer, Clause, Cnf, Lit};
 use std::alloc::{AllocError, Global};
 use std::test::Fail;

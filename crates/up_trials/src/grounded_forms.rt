@@ -1,5 +1,5 @@
-use crate::{Atom, Grounded};
 use fo_core::Seq;
+use fo_ground::{Atom, Grounded};
 use prop_core::Cnf;
 use std::test::Fail;
 

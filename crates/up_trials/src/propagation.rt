@@ -1,5 +1,5 @@
-use crate::Checked;
 use fo_core::Seq;
+use prop_check::Checked;
 use prop_core::{Clause, Cnf, Lit};
 use std::alloc::{AllocError, Global};
 use std::test::Fail;

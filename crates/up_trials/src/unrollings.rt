@@ -1,8 +1,8 @@
-use crate::Unrolled;
 use fo_core::{Query, Seq};
 use fo_min::Excess;
 use std::test::Fail;
 use up_claims::Kind;
+use up_unroll::Unrolled;
 
 #[test]
 fn answers_are_copied(rt: HostRuntime) -> Result<(), Fail> {
