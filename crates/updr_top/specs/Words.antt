@@ -1,6 +1,7 @@
 -- What the words of a command line mean.
 use Rattle.std.specs.Prelude.{ℕ, ◌+◌, ◌-◌, ◌*◌, ◌≤◌, ◌&&◌, nat_le, if◌then◌else◌, List, [], ◌∷◌, Option, Some, None, is_none, unwrap_or, option_map, option_and_then, length, codes, bytes_eq, IfSome, ⊤}
 use Rattle.std.specs.Char.{is_ascii_digit}
+use Rattle.fo_core.specs.declared.query.TheConstants.{MOST_WEIGHT}
 use Rattle.updr_top.specs.declared.words.Options.{Options}
 use Rattle.updr_top.specs.declared.words.Command as code
 use Rattle.updr_top.specs.declared.words.Command.TheVariants as read
@@ -38,7 +39,7 @@ with_depth o word = if is_none o.depth then option_map (λ n. record o { depth =
 
 -- `--weight` and a number, where none was given before
 abbrev pub with_weight : Options → List ℕ → Option Options
-with_weight o word = if is_none o.weight then option_map (λ n. record o { weight = Some n }) (number_of 1 4000000 word) else None
+with_weight o word = if is_none o.weight then option_map (λ n. record o { weight = Some n }) (number_of 1 MOST_WEIGHT word) else None
 
 -- one more option: its name, and its number
 abbrev pub with_option : Options → List ℕ → List ℕ → Option Options
@@ -62,7 +63,7 @@ check_words model _ = Usage
 
 -- a weight of at most 4,000,000 where no other is given
 abbrev pub weight_of : Options → ℕ
-weight_of o = unwrap_or o.weight 4000000
+weight_of o = unwrap_or o.weight MOST_WEIGHT
 
 -- at most 10 steps where no other number is given
 abbrev pub depth_of : Options → ℕ
@@ -98,10 +99,10 @@ meant (read.Bmc model depth weight) = Bmc model.now depth weight
 abbrev pub IsInRange : Command → Type 0
 IsInRange Usage = ⊤
 IsInRange (Check model report) = ⊤
-IsInRange (Verify model weight) = weight ≤ 4000000
-IsInRange (Bmc model depth weight) = (depth ≤ 32) × (weight ≤ 4000000)
+IsInRange (Verify model weight) = weight ≤ MOST_WEIGHT
+IsInRange (Bmc model depth weight) = (depth ≤ 32) × (weight ≤ MOST_WEIGHT)
 
 -- what is given lies in its range
 pub record AreInRange (o : Options) : Type 0 where
   pub depth : IfSome o.depth (λ n. n ≤ 32)
-  pub weight : IfSome o.weight (λ n. n ≤ 4000000)
+  pub weight : IfSome o.weight (λ n. n ≤ MOST_WEIGHT)

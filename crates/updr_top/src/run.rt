@@ -1,3 +1,4 @@
+ghost use Rattle.fo_core.specs.declared.query.TheConstants.{MOST_WEIGHT};
 ghost use Rattle.std.specs.Prelude.{◌≡◌, ◌≤◌, ℕ, List, map, string_bytes};
 ghost use Rattle.updr_top.specs.Ends.{usage};
 ghost use Rattle.updr_top.specs.Outside.{outside};
@@ -116,14 +117,14 @@ fn check<F: Files>(alloc: Global, model: &str, report: &str, files: &mut F) -> R
 
 /// A finder whose limit is this weight.
 fn finder(weight: u32) -> Engine
-    requires { weight ≤ 4000000 }
+    requires { weight ≤ MOST_WEIGHT }
     ensures { ⟦<Engine as Finder>⟧.limit result ≡ weight }
 {
     Engine::new(u64::from(weight))
 }
 
 fn verify<F: Files>(alloc: Global, model: &str, weight: u32, files: &mut F) -> Result<Told, Stop>
-    requires { weight ≤ 4000000 }
+    requires { weight ≤ MOST_WEIGHT }
     ensures { ComesBy (verifying weight (outside F.contents F.faults F.refused files.old files.new) model.now) result }
 {
     let bytes = read_file(alloc, files, model)?;
@@ -141,7 +142,7 @@ fn bmc<F: Files>(
     files: &mut F,
 ) -> Result<Told, Stop>
     requires depth { depth ≤ 32 }
-    requires weight { weight ≤ 4000000 }
+    requires weight { weight ≤ MOST_WEIGHT }
     ensures { ComesBy (unrolling depth weight (outside F.contents F.faults F.refused files.old files.new) model.now) result }
 {
     let bytes = read_file(alloc, files, model)?;
