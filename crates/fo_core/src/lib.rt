@@ -20,6 +20,7 @@ mod sorted;
 mod system;
 mod term;
 mod text;
+mod threads;
 mod tuples;
 mod weight_laws;
 mod world;
@@ -50,6 +51,3 @@ pub use text::Text;
 pub use tuples::{all_tuples, sizes_of, tuple_at, tuple_count, tuple_place};
 pub use weight_laws::{fewer_formulas_are_no_heavier, fewer_literals_are_no_heavier};
 pub use world::{Table, World};
-
-#[cfg(test)]
-mod tests;

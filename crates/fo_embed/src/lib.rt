@@ -12,6 +12,3 @@ pub use embedding::is_embedding;
 pub use laws::universal_sentences_pass_to_embedded_states;
 pub use map::Map;
 pub use search::find_embedding;
-
-#[cfg(test)]
-mod tests;

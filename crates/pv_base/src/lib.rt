@@ -16,8 +16,6 @@ mod real_files;
 mod real_sinks;
 mod sink;
 mod span;
-#[cfg(test)]
-mod tests;
 
 pub use files::{Files, LIMIT, ReadFault};
 pub use good_files::GoodFiles;

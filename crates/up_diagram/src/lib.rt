@@ -22,6 +22,3 @@ pub use laws::{
 pub use leaving_out::without;
 pub use meeting::meets;
 pub use picks::Picks;
-
-#[cfg(test)]
-mod tests;
