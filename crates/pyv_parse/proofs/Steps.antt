@@ -1,5 +1,5 @@
 -- Steps of reading expressions that go a level further in.
-use Rattle.std.proofs.Common.{◌≡◌, ℕ, ◌+◌, ◌-◌, max, true, false, List, Some, None, Ok, refl, ap, ◌∙◌, arith}
+use Rattle.std.proofs.Common.{◌≡◌, ℕ, ◌+◌, ◌-◌, ◌≤◌, max, true, false, List, Some, None, Ok, Err, refl, sym, ap, ◌∙◌, arith}
 use Rattle.std.specs.Prelude.{nat_lt}
 use Rattle.std.proofs.lemmas.Bool.{lt-ltb}
 use Rattle.pyv_lex.specs.declared.token.Kind.TheVariants as kind
@@ -7,9 +7,9 @@ use Rattle.pyv_lex.specs.declared.token.Token.{Token}
 use Rattle.pyv_grammar.specs.declared.tree.Expr.TheVariants as expr
 use Rattle.pyv_grammar.specs.declared.reading.Found.{Found}
 use Rattle.pyv_grammar.specs.Grammar.{Level, Atom, Unary, Ands, Imps, Exprs}
-use Rattle.pyv_grammar.specs.Reading.{Got, Reader, eat, ◌>>=◌, give, and_then, sign, some_list, found, trees, heights, joined, deep, read, negation_at, quantified_at, conditional_at, named_at, new_at, distinct_at, bracketed_at, closed_list, atom_at, unary_at, unaries, ors, imps, imp_at}
+use Rattle.pyv_grammar.specs.Reading.{Got, Reader, eat, ◌>>=◌, give, and_then, wants, sign, some_list, found, trees, heights, joined, deep, read, negation_at, quantified_at, conditional_at, named_at, new_at, distinct_at, bracketed_at, closed_list, atom_at, unary_at, unaries, ors, imps, imp_at}
 use Rattle.pyv_grammar.proofs.Deep.{deep_reads}
-use Rattle.pyv_parse.specs.Gives.{eat_behind}
+use Rattle.pyv_parse.specs.Gives.{eat_behind, above, part_at, chosen_at}
 use Rattle.pyv_parse.proofs.Loops.{sign-some}
 
 -- what stands behind the sign of an implication, whose left side was read
@@ -64,9 +64,30 @@ module _ (n v r : ℕ) (e : n ≡ r + 1) where
       ∙ sign-some x.ends_open (nat_lt 0 n) kind.Implies (conclusion n v x) (give x) rest after t h
       ∙ rw (roomy, further Imps) refl
 
+-- ---- conditionals, part by part
+
+bound_twice : {A B C : Type 0} (got : Got A) (f : A × List Token → Got B) (g : B × List Token → Got C) → ((got >>= f) >>= g) ≡ (got >>= λ x. f x >>= g)
+bound_twice (Ok x) f g = refl
+bound_twice (Err e) f g = refl
+
+bound_alike : {A B : Type 0} (got : Got A) (f g : A × List Token → Got B) → ((x : A × List Token) → f x ≡ g x) → (got >>= f) ≡ (got >>= g)
+bound_alike (Ok x) f g h = h x
+bound_alike (Err e) f g h = refl
+
+by_parts : (e : Reader Found) (t : Token) (ts : List Token) → conditional_at e t ts ≡ chosen_at e t ts
+unfolding part_at above
+by_parts e t ts =
+    bound_alike (e ts) _ _ (λ x.
+    bound_alike (wants kind.Then x.1) _ _ (λ w. bound_alike (e w.1) _ _ (λ y. sym (bound_twice (wants kind.Else y.1) (λ v. e v.1) _)))
+    ∙ sym (bound_twice (wants kind.Then x.1) (λ w. e w.1) _))
+
+pub above_low : (a b c h : ℕ) → a ≤ h → b ≤ h → c ≤ h → above a b c ≤ h + 1
+unfolding above
+above_low a b c h i j k = omega arith
+
 pub at_if : (n v r w : ℕ) → n ≡ r + 1 → v ≡ w + 1 → (ts rest : List Token) (t : Token) → eat kind.Bang ts ≡ None → eat kind.Forall ts ≡ None → eat kind.Exists ts ≡ None → eat kind.If ts ≡ Some (t, rest)
-    → read n v Unary ts ≡ conditional_at (read r w Exprs) t rest
+    → read n v Unary ts ≡ chosen_at (read r w Exprs) t rest
 unfolding unaries unary_at
 at_if n v r w e f ts rest t a b c h =
     let lower : v - 1 ≡ w = omega arith in
-    rw (a, b, c, h, roomy n v r e, lt-ltb 0 v (omega arith), lower, further n w r e Exprs) refl
+    rw (a, b, c, h, roomy n v r e, lt-ltb 0 v (omega arith), lower, further n w r e Exprs) (by_parts (read r w Exprs) t rest)

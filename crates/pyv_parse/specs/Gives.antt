@@ -1,5 +1,5 @@
 -- What the parser's functions give, by the readers on lists.
-use Rattle.std.specs.Prelude.{◌≡◌, ℕ, max, Bool, true, false, List, [], ◌∷◌, ◌++◌, Option, None, Result, Ok, Err}
+use Rattle.std.specs.Prelude.{◌≡◌, ℕ, suc, max, Bool, true, false, List, [], ◌∷◌, ◌++◌, Option, None, Result, Ok, Err}
 use Rattle.pyv_lex.specs.declared.token.Kind.{Kind}
 use Rattle.pyv_lex.specs.declared.token.Kind.TheVariants as kind
 use Rattle.pyv_lex.specs.declared.token.Token.{Token}
@@ -9,7 +9,7 @@ use Rattle.pyv_grammar.specs.declared.tree.Expr.TheVariants as expr
 use Rattle.pyv_grammar.specs.declared.reading.Found.{Found}
 use Rattle.pyv_grammar.specs.declared.reading.Stuck.{Stuck}
 use Rattle.pyv_grammar.specs.Grammar.{Level, Unary, Ands, Exprs}
-use Rattle.pyv_grammar.specs.Reading.{Got, Reader, eat, ◌>>=◌, give, read}
+use Rattle.pyv_grammar.specs.Reading.{Got, Reader, eat, ◌>>=◌, give, and_then, wants, found, read}
 use Rattle.pyv_parse.specs.declared.halt.Halt.{Halt}
 use Rattle.pyv_parse.specs.declared.halt.Halt.TheVariants as halt
 use Rattle.pyv_parse.specs.declared.members.Connective.{Connective}
@@ -73,6 +73,21 @@ node_for connective.Or = expr.Or
 abbrev pub quantifier_of : (universal : Bool) → ℕ → List Bound → Expr → Expr
 quantifier_of false = expr.Ex
 quantifier_of true = expr.All
+
+-- ---- conditionals
+
+-- the height of a conditional whose parts have these heights
+unfoldable pub above : ℕ → ℕ → ℕ → ℕ
+above a b c = suc (max a (max b c))
+
+-- a part behind its word
+unfoldable pub part_at : Kind → Reader Found → Reader Found
+part_at k e = and_then (wants k) (λ _. e)
+
+-- what follows `if`, part by part
+abbrev pub chosen_at : Reader Found → Token → Reader Found
+chosen_at e t = and_then e (λ x. and_then (part_at kind.Then e) (λ y. and_then (part_at kind.Else e) (λ z.
+    give (found (expr.If t.span.from x.tree y.tree z.tree) true (above x.height y.height z.height)))))
 
 -- ---- expressions of declarations
 

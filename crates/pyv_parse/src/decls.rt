@@ -205,7 +205,8 @@ fn trace(tokens: &[Token]) -> Result<(Decl, &[Token]), Halt>
 {
     let (_, rest) = wants(tokens, Kind::Trace)?;
     let (_, rest) = wants(rest, Kind::CurlyLeft)?;
-    Ok((Decl::Trace, behind_brace(rest)?))
+    let rest = behind_brace(rest)?;
+    Ok((Decl::Trace, rest))
 }
 
 /// The tokens behind the curly bracket that closes one before them.

@@ -1,7 +1,7 @@
 ghost use Rattle.std.specs.Prelude.{◌+◌, ◌<◌, ◌≤◌, ◌^◌, IfOk, length, nat_lt};
 ghost use Rattle.pyv_grammar.specs.Grammar.{Atom, Unary, Imps, Exprs};
-ghost use Rattle.pyv_grammar.specs.Reading.{read, deep, joined, all_separated, ends_open, negation_at, quantified_at, conditional_at, comparison_at, named_at, new_at, distinct_at, bracketed_at, some_list};
-ghost use Rattle.pyv_parse.specs.Gives.{Gives, gathered, put_member, no_members, sign_of, operand_of, node_for, quantifier_of};
+ghost use Rattle.pyv_grammar.specs.Reading.{read, deep, joined, all_separated, ends_open, negation_at, quantified_at, comparison_at, named_at, new_at, distinct_at, bracketed_at, some_list};
+ghost use Rattle.pyv_parse.specs.Gives.{Gives, gathered, put_member, no_members, sign_of, operand_of, node_for, quantifier_of, part_at, chosen_at};
 
 use crate::halt::Halt;
 use crate::lists::bounds;
@@ -200,16 +200,31 @@ fn chosen(
     lower: u32,
 ) -> Result<(Found, &[Token]), Halt>
     requires { lower + 1 < 2 ^ 32 }
-    ensures gives { Gives (λ x. (x.0, x.1.now)) result (conditional_at (read room lower Exprs) word tokens.now) }
+    ensures gives { Gives (λ x. (x.0, x.1.now)) result (chosen_at (read room lower Exprs) word tokens.now) }
     ensures within { IfOk result (λ x. (length x.1.now < length tokens.now) × (x.0.height ≤ lower + 1)) }
 {
     let (condition, rest) = expr(alloc, tokens, room, lower)?;
-    let (_, rest) = wants(rest, Kind::Then)?;
-    let (with, rest) = expr(alloc, rest, room, lower)?;
-    let (_, rest) = wants(rest, Kind::Else)?;
-    let (without, rest) = expr(alloc, rest, room, lower)?;
+    let (with, rest) = part(alloc, Kind::Then, rest, room, lower)?;
+    let (without, rest) = part(alloc, Kind::Else, rest, room, lower)?;
     let found = conditional(alloc, word, condition, with, without)?;
     Ok((found, rest))
+}
+
+/// A part of a conditional, behind its word.
+#[cycle(expressions)]
+#[tactic(auto, unfolding(crate::specs::Gives::part_at))]
+fn part(
+    alloc: Global,
+    word: Kind,
+    tokens: &[Token],
+    room: u32,
+    height: u32,
+) -> Result<(Found, &[Token]), Halt>
+    ensures gives { Gives (λ x. (x.0, x.1.now)) result (part_at word (read room height Exprs) tokens.now) }
+    ensures within { IfOk result (λ x. (length x.1.now < length tokens.now) × (x.0.height ≤ height)) }
+{
+    let (_, rest) = wants(tokens, word)?;
+    expr(alloc, rest, room, height)
 }
 
 /// An expression of names, constants, brackets and equalities alone, outside brackets.

@@ -1,7 +1,7 @@
 ghost use Rattle.std.specs.Prelude.{◌≡◌, ◌+◌, ◌<◌, ◌^◌, max, true, false, IfOk};
 ghost use Rattle.pyv_grammar.specs.Reading.{found as found_of, equality};
 ghost use Rattle.pyv_grammar.specs.declared.tree.Expr.TheVariants as expr;
-ghost use Rattle.pyv_parse.specs.Gives.{Makes, quantifier_of};
+ghost use Rattle.pyv_parse.specs.Gives.{Makes, above, quantifier_of};
 
 use crate::halt::Halt;
 use fo_core::{Boxed, Seq};
@@ -103,6 +103,15 @@ pub(crate) fn equivalence(
     })
 }
 
+/// The height of a conditional whose parts have these heights.
+#[tactic(auto, unfolding(crate::specs::Gives::above))]
+fn above(condition: u32, with: u32, without: u32) -> u32
+    requires { above condition with without < 2 ^ 32 }
+    ensures { result ≡ above condition with without }
+{
+    condition.max(with.max(without)) + 1
+}
+
 /// The conditional by its word.
 pub(crate) fn conditional(
     alloc: Global,
@@ -111,10 +120,10 @@ pub(crate) fn conditional(
     with: Found,
     without: Found,
 ) -> Result<Found, Halt>
-    requires { max condition.height (max with.height without.height) + 1 < 2 ^ 32 }
-    ensures made { Makes result (found_of (expr.If word.span.from condition.tree with.tree without.tree) true (max condition.height (max with.height without.height) + 1)) }
+    requires { above condition.height with.height without.height < 2 ^ 32 }
+    ensures made { Makes result (found_of (expr.If word.span.from condition.tree with.tree without.tree) true (above condition.height with.height without.height)) }
 {
-    let height = condition.height.max(with.height.max(without.height)) + 1;
+    let height = above(condition.height, with.height, without.height);
     let condition = Boxed::new(alloc, condition.tree)?;
     let (with, without) = boxed(alloc, with, without)?;
     Ok(Found {

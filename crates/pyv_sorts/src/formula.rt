@@ -53,14 +53,21 @@ fn implies(alloc: Global, f: Formula, g: Formula) -> Result<Formula, AllocError>
     Ok(Formula::Or(two(alloc, not(alloc, f)?, g)?))
 }
 
+/// The first holds, or the second doesn't.
+fn implied(alloc: Global, f: &Formula, g: &Formula) -> Result<Formula, AllocError>
+    ensures { IfOk result (λ h. h ≡ F.Or (f.now ∷ F.Not g.now ∷ [])) }
+{
+    let left = f.copy(alloc)?;
+    let right = not(alloc, g.copy(alloc)?)?;
+    Ok(Formula::Or(two(alloc, left, right)?))
+}
+
 /// Both implications.
 fn iff(alloc: Global, f: Formula, g: Formula) -> Result<Formula, AllocError>
     ensures { IfOk result (λ h. h ≡ connected Equivalence f g) }
 {
-    let left = f.copy(alloc)?;
-    let right = g.copy(alloc)?;
+    let back = implied(alloc, &f, &g)?;
     let forth = implies(alloc, f, g)?;
-    let back = Formula::Or(two(alloc, left, not(alloc, right)?)?);
     Ok(Formula::And(two(alloc, forth, back)?))
 }
 

@@ -9,7 +9,7 @@ use Rattle.pyv_grammar.proofs.Good.{good_read}
 use Rattle.pyv_parse.specs.Gives.{put_member, operand_of, sign_of, node_for}
 use Rattle.pyv_parse.proofs.Loops.{goes_on, stops, fails, fails_then}
 use Rattle.pyv_parse.proofs.Gathered.{made_of, none_made, distinct_made, closed_by, not_closed, none_listed, many}
-use Rattle.pyv_parse.proofs.Steps.{at_bang, at_forall, at_exists, at_if, at_word, at_new, at_distinct, at_bracket, at_implies}
+use Rattle.pyv_parse.proofs.Steps.{at_bang, at_forall, at_exists, at_if, at_word, at_new, at_distinct, at_bracket, at_implies, above_low}
 use Rattle.pyv_parse.proofs.exprs.+expressions.Goals as goal
 
 pub unary-returns-in-Some-clause-gives : goal.unary-returns-in-Some-clause-gives
@@ -127,3 +127,40 @@ operands-returns-in-None-clause-gives t c =
     let e = read c.args.room c.args.height l in
     let k = sign_of c.args.connective in
     rw c.in_ok-put.ensures.ok (sym c.loop-members.invariant.same ∙ stops put_member ends_open e k (good_read c.args.room c.args.height l).is_strict c.loop-members.members c.loop-members.rest.now _ c.in_ok-found.found c.in_ok-found.ensures.gives (rw c.sign.ensures at c.in-None.ensures.is))
+
+-- heights
+
+pub without_iff-returns-clause-within : goal.without_iff-returns-clause-within
+without_iff-returns-clause-within t c =
+    rw c.in_ok-implication.ensures.made
+    (omega (arith, c.in_ok-premise.ensures.within, c.in-Some.ensures.shorter, c.in_ok-conclusion.ensures.within), omega (arith, c.in_ok-premise.ensures.within, c.in_ok-conclusion.ensures.within))
+
+pub expr-equivalence-requires : goal.expr-equivalence-requires
+expr-equivalence-requires t c = omega (arith, c.in_ok-lower.ensures.ok, c.in_ok-right.ensures.within)
+
+pub expr-returns-clause-within : goal.expr-returns-clause-within
+expr-returns-clause-within t c =
+    rw c.in_ok-equivalence.ensures.made
+    (omega (arith, c.in_ok-left.ensures.within, c.in-Some.ensures.shorter, c.in_ok-right.ensures.within), omega (arith, c.in_ok-lower.ensures.ok, c.in_ok-right.ensures.within))
+
+pub comparison-returns-in-Some-clause-within : goal.comparison-returns-in-Some-clause-within
+comparison-returns-in-Some-clause-within t c =
+    rw c.in_ok-equality.ensures.made
+    (omega (arith, c.in_ok-left.ensures.within, c.in-Some.ensures.shorter, c.in_ok-right.ensures.within), omega (arith, c.in_ok-left.ensures.within, c.in_ok-right.ensures.within))
+
+pub comparison-returns-in-Some-eat-clause-within : goal.comparison-returns-in-Some-eat-clause-within
+comparison-returns-in-Some-eat-clause-within t c =
+    rw c.in_ok-inequality.ensures.made
+    (omega (arith, c.in_ok-left.ensures.within, c.in-Some-eat.ensures.shorter, c.in_ok-right-2.ensures.within), omega (arith, c.in_ok-left.ensures.within, c.in_ok-right-2.ensures.within))
+
+pub chosen-conditional-requires : goal.chosen-conditional-requires
+chosen-conditional-requires t c =
+    let low = above_low c.in_ok-condition.condition.height c.in_ok-with.with.height c.in_ok-without.without.height c.args.lower c.in_ok-condition.ensures.within.1 c.in_ok-with.ensures.within.1 c.in_ok-without.ensures.within.1 in
+    omega (arith, low, c.requires)
+
+pub chosen-returns-clause-within : goal.chosen-returns-clause-within
+chosen-returns-clause-within t c =
+    rw c.in_ok-found.ensures.made (
+      omega (arith, c.in_ok-condition.ensures.within, c.in_ok-with.ensures.within, c.in_ok-without.ensures.within),
+      above_low c.in_ok-condition.condition.height c.in_ok-with.with.height c.in_ok-without.without.height c.args.lower c.in_ok-condition.ensures.within.1 c.in_ok-with.ensures.within.1 c.in_ok-without.ensures.within.1,
+    )

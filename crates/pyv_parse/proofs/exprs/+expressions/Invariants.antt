@@ -41,8 +41,11 @@ decreases-bracketed l = l.room * 32 + 15
 abbrev pub decreases-binding : goal.decreases-binding
 decreases-binding l = l.room * 32 + 15
 
+abbrev pub decreases-part : goal.decreases-part
+decreases-part l = l.room * 32 + 15
+
 abbrev pub decreases-chosen : goal.decreases-chosen
-decreases-chosen l = l.room * 32 + 15
+decreases-chosen l = l.room * 32 + 16
 
 abbrev pub decreases-arguments : goal.decreases-arguments
 decreases-arguments l = l.room * 32 + 15
