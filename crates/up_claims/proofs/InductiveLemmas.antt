@@ -1,13 +1,14 @@
 -- Properties are inductive exactly where no world of one or two copies shows that one fails.
 use Rattle.std.proofs.Common.{◌≡◌, ℕ, ◌+◌, ◌<◌, ◌↔◌, ◌⊎◌, inl, inr, [], length, refl, sym, subst, ◌∙◌, arith, length-append}
 use Rattle.std.proofs.lemmas.List.{get_or_default}
+use Rattle.std.proofs.lemmas.List.Elements.{All-append}
 use Rattle.std.specs.List.{All}
 use Rattle.fo_core.specs.declared.system.System.{System}
 use Rattle.fo_core.specs.declared.formula.Formula.TheVariants as F
 use Rattle.fo_core.specs.declared.world.World.{World}
 use Rattle.fo_core.specs.RunLaws.{KeepsAlone, KeepsPair}
 use Rattle.fo_core.specs.Runs.{IsInitial, IsStep, LeadsOn, alone, pair}
-use Rattle.fo_core.specs.Sorted.{IsSystem}
+use Rattle.fo_core.specs.Sorted.{IsFormula, IsSystem}
 use Rattle.fo_core.specs.Tables.{Fits}
 use Rattle.fo_core.specs.Truth.{Truth}
 use Rattle.fo_core.proofs.Decided.{tell}
@@ -86,6 +87,7 @@ module _ (sys : System) (is : IsSystem sys) where
 
   pub inductive-back : NothingBreaks sys → IsInductive sys (properties sys)
   inductive-back none = record {
+    closed = All-append (λ f. IsFormula sys.sig 1 f []) sys.safeties sys.invariants is.safeties is.invariants;
     starts = λ w c fits lt start. all-true w c (starts-back w c fits none lt start);
     keeps = λ w c fits lt stepping holding. all-true w (c + 1) (keeps-back w c fits none lt stepping holding);
   }

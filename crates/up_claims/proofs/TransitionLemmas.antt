@@ -22,7 +22,7 @@ use Rattle.fo_core.proofs.EdgeRows.{edge-And, edge-Or}
 use Rattle.fo_core.proofs.Zips.{AllZip-length}
 use Rattle.up_claims.specs.Transitions.{keeps, is_kept, kept_below, transition_claim, any_transition}
 use Rattle.fo_core.proofs.Binders.{some_over-from, some_over-to, some_over-sorted, some_over-edge}
-use Rattle.up_claims.proofs.Kept.{keeps-from, keeps-to, keeps-sorted, keeps-edge}
+use Rattle.up_claims.proofs.KeptSymbols.{keeps-from, keeps-to, keeps-sorted, keeps-edge}
 use Rattle.fo_core.proofs.ListFacts.{any_cases, any_map, any_mapped, any_as, all_left, all_right, all_mapped}
 
 -- whether a number is listed

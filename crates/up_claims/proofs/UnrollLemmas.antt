@@ -98,10 +98,10 @@ module _ (sys : System) where
       abbrev T : Formula → Type 0
       T f = Truth sys.sig w 0 f []
 
-      violates-from : (c : ℕ) → ¬ Truth sys.sig w c (F.And sys.safeties) [] → Violates sys w c
+      pub violates-from : (c : ℕ) → ¬ Truth sys.sig w c (F.And sys.safeties) [] → Violates sys w c
       violates-from c fails = some_fails (λ f. Truth sys.sig w c f []) (λ f. tell sys.sig w c f []) sys.safeties (λ all. fails ((truth-And sys.sig w c sys.safeties []).1 all))
 
-      violates-to : (c : ℕ) → Violates sys w c → ¬ Truth sys.sig w c (F.And sys.safeties) []
+      pub violates-to : (c : ℕ) → Violates sys w c → ¬ Truth sys.sig w c (F.And sys.safeties) []
       violates-to c some t = not_all (λ f. Truth sys.sig w c f []) sys.safeties some ((truth-And sys.sig w c sys.safeties []).0 t)
 
       run-from : Fits sys.sig w → length w.copies ≡ n + 1 → All T (unroll_claims sys n) → IsViolatingRunOf sys n w

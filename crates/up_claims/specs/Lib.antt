@@ -1,6 +1,17 @@
+pub mod Blocked
 pub mod Breaking
+pub mod Chains
 pub mod Claims
+pub mod CubeInvariants
+pub mod Finding
+pub mod Frames
 pub mod Inductive
+pub mod InferAsked
+pub mod InferQueries
+pub mod InferSaid
+pub mod Inferring
+pub mod Judging
 pub mod RunQueries
 pub mod Transitions
+pub mod Verdicts
 pub mod VerifyQueries

@@ -16,7 +16,7 @@ use fo_core::{Boxed, Formula, Query, Seq, System, shifted};
 use std::alloc::{AllocError, Global};
 
 /// Adds the axioms, copy by copy.
-fn add_states(
+pub fn add_states(
     alloc: Global,
     sys: &System,
     copies: u32,
@@ -50,7 +50,7 @@ fn add_steps(
 }
 
 /// All safeties are true in this copy, denied.
-fn some_safety_fails(alloc: Global, sys: &System, copy: u32) -> Result<Formula, AllocError>
+pub fn some_safety_fails(alloc: Global, sys: &System, copy: u32) -> Result<Formula, AllocError>
     requires { IsSystem sys.now }
     ensures { IfOk result (λ f. f ≡ denied sys.now.sig copy (F.And sys.now.safeties)) }
 {
