@@ -1,0 +1,10 @@
+pub mod Briefs
+pub mod Due
+pub mod Finding
+pub mod Legal
+pub mod Machine
+pub mod Ranges
+pub mod Replay
+pub mod Rounds
+pub mod Sound
+pub mod Told
