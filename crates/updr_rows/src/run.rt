@@ -104,7 +104,7 @@ fn call<R: Files + AllocGlobal>(
     }
     let mut out = sink(alloc, &case.out)?;
     let mut err = sink(alloc, &case.err)?;
-    let ending = run_plain(alloc, words, &mut held, &mut out, &mut err);
+    let ending = run_plain(rt, alloc, words, &mut held, &mut out, &mut err);
     Ok(Outcome {
         status: ending.status,
         out,

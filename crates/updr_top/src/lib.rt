@@ -1,20 +1,14 @@
 //! The top call: it serves the words of a command line.
 #![tactic(auto)]
 
-mod judging;
-mod model;
-mod place;
-mod reading;
+mod bmc;
+mod check;
+mod options;
 mod report;
 mod report_text;
-mod run;
-mod stratifying;
-mod told;
-mod unrolling;
-mod verifying;
-mod words;
+mod top;
+mod verify;
 
 pub use report::{Numbers, RunReport, Unread};
 pub use report_text::{read_report, write_report};
-pub use run::run_plain;
-pub use told::Ending;
+pub use top::{Ending, run_plain, tell_out_of_memory};

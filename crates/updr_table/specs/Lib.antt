@@ -1,0 +1,5 @@
+pub mod Commands
+pub mod Outside
+pub mod Rows
+pub mod Stages
+pub mod Table

@@ -1,0 +1,5 @@
+pub mod Ends
+pub mod Places
+pub mod Statuses
+pub mod Stops
+pub mod Telling

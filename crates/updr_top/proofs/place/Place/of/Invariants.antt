@@ -1,5 +1,0 @@
-use Rattle.updr_top.proofs.Walking.{Walked}
-use Rattle.updr_top.proofs.place.Place.of.Given as goal
-
-abbrev pub invariant-each : goal.invariant-each
-invariant-each l = Walked l.before l.byte-index l.line l.column

@@ -1,8 +1,0 @@
-use Rattle.std.proofs.Common.{◌≡◌, ◌++◌, take}
-use Rattle.std.specs.Prelude.{codes, flat_map}
-use Rattle.updr_top.specs.Stratifying.{sort_name}
-use Rattle.updr_top.proofs.stratifying.add_arrows.Given as goal
-
--- the sorts before this one are written
-abbrev pub invariant-each : goal.invariant-each
-invariant-each l = l.words.items ≡ l.fn.words.items ++ flat_map (λ s. codes " -> " ++ sort_name l.names s) (take l.sort-index l.sorts)

@@ -1,0 +1,135 @@
+-- The command `bmc`: the shortest violating run of few steps.
+use Rattle.std.specs.Prelude.{◌≡◌, ◌≤◌, ℕ, List, [], ◌∷◌, ◌++◌, codes, decimal, refl, slice_index_or}
+use Rattle.std.specs.List.{All}
+use Rattle.std.proofs.Common.{arith}
+use Rattle.clap.proofs.OnLiterals.{clap_on_literals}
+use Rattle.fo_core.specs.declared.order.Purpose.TheVariants as purpose
+use Rattle.fo_core.specs.declared.system.System.{System}
+use Rattle.fo_core.specs.declared.world.World.{World}
+use Rattle.fo_core.specs.Asked.{least_queries}
+use Rattle.fo_core.specs.Finds.{IsLight}
+use Rattle.fo_min.specs.declared.found.Excess.{Excess}
+use Rattle.pyv_sorts.specs.declared.model.Elaborated.{Elaborated}
+use Rattle.up_claims.specs.Breaking.{IsViolatingRunOf}
+use Rattle.up_claims.specs.declared.kind.Kind.{Kind}
+use Rattle.up_claims.specs.declared.kind.Kind.TheVariants as kind
+use Rattle.up_claims.specs.RunQueries.{run_query, run_queries, HasNoRunOf, IsLeastRun}
+use Rattle.up_unroll.specs.Unrolling.{IsUnrollExcess}
+use Rattle.updr_told.specs.declared.status.Status.TheVariants.{Holds, Unsafe, Over}
+use Rattle.updr_words.specs.Forms.{Form, Number}
+use Rattle.updr_words.specs.Jobs.{Job}
+use Rattle.updr_table.specs.Commands.{Command}
+use Rattle.updr_table.specs.Rows.{Row}
+use Rattle.updr_model.specs.OnModel.{Given, IsSoundStratified, if_stratified, model_command}
+use Rattle.updr_top.specs.Options.{weight_option}
+use Rattle.updr_top.specs.Reports.{report_text}
+use Rattle.updr_top.specs.declared.report.Numbers.{Numbers}
+
+-- `--depth`, the most steps of a run that is looked for: from 0 to 32, and without it 10
+abbrev pub depth_option : Number
+depth_option = record { name = codes "depth"; usual = codes "10"; least = 0; most = 32 }
+
+-- `bmc MODEL --depth D --weight W`
+abbrev pub bmc_form : Form
+bmc_form = record { name = codes "bmc"; files = codes "MODEL" ∷ []; numbers = depth_option ∷ weight_option ∷ []; flags = [] }
+
+-- ---- what is printed
+
+abbrev pub no_numbers : Numbers
+no_numbers = record { productive = 0; frontier = 0; clauses = 0 }
+
+-- the report of a verdict without a run
+abbrev pub verdict_text : List ℕ → List ℕ
+verdict_text verdict = codes "report 1\nverdict " ++ verdict ++ codes "\nnumbers 0 0 0\ndone\n"
+
+abbrev pub kind_word : Kind → List ℕ
+kind_word kind.Seed = codes "seed"
+kind_word kind.Root = codes "root"
+kind_word kind.Before = codes "before"
+kind_word kind.Block = codes "block"
+kind_word kind.Push = codes "push"
+kind_word kind.Unroll = codes "unroll"
+
+abbrev pub run_text : Elaborated → World → List ℕ
+run_text e w = report_text e.sys.sig e.names (record { world = w; numbers = no_numbers })
+
+abbrev pub no_run_text : ℕ → List ℕ
+no_run_text depth = verdict_text (codes "norun " ++ decimal depth)
+
+abbrev pub over_text : Kind → ℕ → List ℕ
+over_text k weight = verdict_text (codes "over " ++ kind_word k ++ codes " " ++ decimal weight)
+
+-- ---- what there is: runs of at most so many steps, and queries of the search for them in their order
+
+-- a query is above the limit
+abbrev pub IsAbove : ℕ → ℕ → System → Type 0
+IsAbove depth limit sys = (x : Excess) × IsUnrollExcess sys limit depth x
+
+-- a violating run exists, and no query is above the limit
+pub record HasRun (depth limit : ℕ) (sys : System) : Type 0 where
+  pub steps : ℕ
+  pub run : World
+  pub within : steps ≤ depth
+  pub violates : IsViolatingRunOf sys steps run
+  pub light : ¬ IsAbove depth limit sys
+
+-- none exists, and no query is above the limit
+pub record HasNoRun (depth limit : ℕ) (sys : System) : Type 0 where
+  pub none : (k : ℕ) → k ≤ depth → HasNoRunOf sys k
+  pub light : ¬ IsAbove depth limit sys
+
+-- the least violating run of fewest steps, and no query that was asked to find it is above the limit
+pub record FindsRun (sys : System) (limit depth : ℕ) (w : World) : Type 0 where
+  pub steps : ℕ
+  pub least : IsLeastRun sys depth steps w
+  pub light : All (IsLight sys.sig limit) (run_queries sys steps ++ least_queries sys.sig (run_query sys steps) w)
+
+-- ---- the table
+
+-- the least of the shortest runs is reported
+abbrev pub found : ℕ → ℕ → Row Given (Unit {0})
+found depth limit = record {
+  status = Unsafe;
+  comes = λ g. HasRun depth limit g.meant.sys;
+  says = λ g text left. (w : World) × FindsRun g.meant.sys limit depth w × (text ≡ run_text g.meant w);
+}
+
+abbrev pub not_found : ℕ → ℕ → Row Given (Unit {0})
+not_found depth limit = record { status = Holds; comes = λ g. HasNoRun depth limit g.meant.sys; says = λ g text left. text ≡ no_run_text depth }
+
+-- the weight of the first query above the limit is reported
+abbrev pub above : ℕ → ℕ → Row Given (Unit {0})
+above depth limit = record {
+  status = Over;
+  comes = λ g. IsAbove depth limit g.meant.sys;
+  says = λ g text left. (x : Excess) × IsUnrollExcess g.meant.sys limit depth x × (text ≡ over_text kind.Unroll x.weight);
+}
+
+abbrev pub bmc_table : ℕ → ℕ → List (Row Given (Unit {0}))
+bmc_table depth limit = found depth limit ∷ not_found depth limit ∷ above depth limit ∷ []
+
+abbrev pub bmc_depth : Job → ℕ
+bmc_depth job = slice_index_or job.numbers 0 0
+
+abbrev pub bmc_limit : Job → ℕ
+bmc_limit job = slice_index_or job.numbers 1 0
+
+abbrev pub bmc_rows : Job → List (Row Given (Unit {0}))
+bmc_rows job = bmc_table (bmc_depth job) (bmc_limit job)
+
+abbrev pub bmc_command : Command (Unit {0})
+bmc_command = model_command bmc_form (λ job. if_stratified purpose.Infer (bmc_rows job))
+
+-- ---- it is sound
+
+pub bmc_sound : IsSoundStratified purpose.Infer bmc_form bmc_rows
+unfolding clap_on_literals
+bmc_sound = record {
+  simple = refl;
+  model = omega arith;
+  table = λ job. refl;
+  exclusive = λ job g model. (
+    (λ h. ((λ n. n.none h.steps h.within h.run h.violates), ((λ a. h.light a), tt))),
+    ((λ n. ((λ a. n.light a), tt)), ((λ _. tt), tt)),
+  );
+}
