@@ -3,13 +3,23 @@
 #![tactic(auto)]
 
 #[cfg(test)]
+mod blocking;
+#[cfg(test)]
 mod clause_learning;
 #[cfg(test)]
 mod clauses;
 #[cfg(test)]
+mod diagrams;
+#[cfg(test)]
+mod embeddings;
+#[cfg(test)]
+mod files_and_sinks;
+#[cfg(test)]
 mod finding;
 #[cfg(test)]
 mod formulas;
+#[cfg(test)]
+mod grabs;
 #[cfg(test)]
 mod ground_terms;
 #[cfg(test)]
@@ -25,7 +35,11 @@ mod plain_search;
 #[cfg(test)]
 mod propagation;
 #[cfg(test)]
+mod pushing;
+#[cfg(test)]
 mod skolem_forms;
+#[cfg(test)]
+mod structures;
 #[cfg(test)]
 mod unrollings;
 #[cfg(test)]
