@@ -1,0 +1,9 @@
+pub mod Changing
+pub mod Chosen
+pub mod Counts
+pub mod EventCores
+pub mod Grown
+pub mod Mirrors
+pub mod NextCores
+pub mod Pairing
+pub mod Roomy

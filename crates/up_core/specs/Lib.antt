@@ -1,0 +1,9 @@
+pub mod Becoming
+pub mod Choice
+pub mod Holding
+pub mod Known
+pub mod Mirror
+pub mod Refuting
+pub mod Room
+pub mod Steps
+pub mod View

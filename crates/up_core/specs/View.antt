@@ -1,0 +1,61 @@
+-- What contracts see of the machine in code.
+use Rattle.std.specs.Prelude.{◌≡◌, ℕ, ◌-◌, ◌≤◌, List, [], ◌∷◌, ◌++◌, length, sum, Some, slice_get, ⊤}
+use Rattle.fo_core.specs.declared.order.Order.{Order}
+use Rattle.fo_core.specs.declared.system.System.{System}
+use Rattle.fo_core.specs.declared.world.World.{World}
+use Rattle.up_claims.specs.declared.report.Numbers.{Numbers}
+use Rattle.up_machine.specs.declared.event.Event.{Event}
+use Rattle.up_machine.specs.declared.job.Job.{Job}
+use Rattle.up_machine.specs.declared.job.Job.TheVariants as J
+use Rattle.up_machine.specs.declared.limits.Limits.{Limits}
+use Rattle.up_machine.specs.Machine.{Machine, Obligation}
+use Rattle.up_machine.specs.Replay.{replay}
+
+-- the system, order and limits that its history is about, the history, how many events there is
+-- room for, and for how many variables of a cube
+pub record CoreView : Type 0 where
+  pub sys : System
+  pub order : Order
+  pub limits : Limits
+  pub history : List Event
+  pub spare : ℕ
+  pub variables : ℕ
+
+-- the machine now
+abbrev pub now : CoreView → Machine
+now c = replay c.history
+
+-- after one more event, which takes one place of the room
+abbrev pub with_event : CoreView → Event → CoreView
+with_event c e = record {
+  sys = c.sys;
+  order = c.order;
+  limits = c.limits;
+  history = c.history ++ e ∷ [];
+  spare = c.spare - 1;
+  variables = c.variables;
+}
+
+-- how far the machine has come
+abbrev pub numbers_of : Machine → Numbers
+numbers_of m = record {
+  productive = m.productive;
+  frontier = m.frontier;
+  clauses = length m.clauses;
+}
+
+-- how many elements a state has
+abbrev pub elements_of : World → ℕ
+elements_of w = sum w.sizes
+
+-- there is room for as many variables as the state of this obligation has elements
+abbrev pub HasVariablesFor : CoreView → ℕ → Type 0
+HasVariablesFor c k =
+    (o : Obligation) → slice_get (now c).obligations k ≡ Some o → elements_of o.world ≤ c.variables
+
+-- and for the job, if it is a work
+abbrev pub HasVariablesForJob : CoreView → Job → Type 0
+HasVariablesForJob c (J.Work k) = HasVariablesFor c k
+HasVariablesForJob c J.Look = ⊤
+HasVariablesForJob c (J.Push k) = ⊤
+HasVariablesForJob c (J.Trace k) = ⊤

@@ -1,0 +1,12 @@
+//! The machine of property-directed reachability in code: it keeps the history of its events, which is
+//! legal at all times, and numbers that are the history's replay.
+#![tactic(auto)]
+
+mod events;
+mod kept;
+mod lists;
+mod state;
+mod steps;
+mod tasks;
+
+pub use kept::Core;

@@ -1,0 +1,363 @@
+//! What is due, chosen from the numbers alone. The rules are tried in order, and the first that gives
+//! a task decides.
+
+ghost use Rattle.std.specs.Prelude.{◌≡◌, ◌↔◌, ◌≤◌, ◌&&◌, nat_lt, not, true, List, Some, IsTrue, length};
+ghost use Rattle.std.specs.List.{count_by, list_any};
+ghost use Rattle.fo_core.specs.declared.system.System.{System};
+ghost use Rattle.up_machine.specs.declared.event.Event.{Event};
+ghost use Rattle.up_machine.specs.Due.{by_end, by_closed_level, by_root, by_steps, by_obligation, by_frontier, by_clause, by_quiet, IsDue, IsFirst, IsQuiet};
+ghost use Rattle.up_machine.specs.Machine.{Machine};
+ghost use Rattle.up_core.specs.Choice.{IsBest, IsBestPlace, IsChoice, IsClosedAt, IsFirstPlace, IsLaterDue, IsSmall, has_job, has_level, is_done as done_of, is_done_seed, is_look, is_open_seed, is_push_of, is_ready as ready_of, is_rooted as rooted_of, is_to_push, is_trace, may_rise};
+ghost use Rattle.up_core.specs.Mirror.{IsMirror};
+
+use crate::state::{ClauseEntry, JobEntry, ObligationEntry, Progress, State};
+use up_machine::{Job, Limits, MOST_SEEDS, Short, Task};
+
+/// Whether some live clause has exactly this level.
+fn is_level(clauses: &[ClauseEntry], level: u32) -> bool
+    ensures { result ≡ list_any (has_level level) clauses.now }
+{
+    clauses
+        .iter()
+        .any(|entry| entry.live && entry.level == level)
+}
+
+/// The least level from 1 to the secure one that no live clause has.
+fn closed_level(clauses: &[ClauseEntry], secure: u32) -> Option<u32>
+    ensures { IsClosedAt clauses.now secure result }
+{
+    'each: for below in 0..secure {
+        if !is_level(clauses, below + 1) {
+            return Some(below + 1);
+        }
+    }
+    None
+}
+
+fn is_rooted(progress: Progress) -> bool
+    ensures { result ≡ rooted_of progress }
+{
+    matches!(progress, Progress::Rooted(_))
+}
+
+fn is_ready(progress: Progress) -> bool
+    ensures { result ≡ ready_of progress }
+{
+    matches!(progress, Progress::Ready)
+}
+
+fn is_done(progress: Progress) -> bool
+    ensures { result ≡ done_of progress }
+{
+    matches!(progress, Progress::Done)
+}
+
+/// The first obligation with an initial state before it.
+fn first_rooted(obligations: &[ObligationEntry]) -> Option<usize>
+    ensures { IsFirstPlace obligations.now (λ _ e. rooted_of e.progress) result }
+{
+    'each: for (k, entry) in obligations.iter().enumerate() {
+        if is_rooted(entry.progress) {
+            return Some(k);
+        }
+    }
+    None
+}
+
+/// The first ready obligation.
+fn first_ready(obligations: &[ObligationEntry]) -> Option<usize>
+    ensures { IsFirstPlace obligations.now (λ _ e. ready_of e.progress) result }
+{
+    'each: for (k, entry) in obligations.iter().enumerate() {
+        if is_ready(entry.progress) {
+            return Some(k);
+        }
+    }
+    None
+}
+
+/// Whether the obligation is ready and below this level.
+fn is_lower(entry: &ObligationEntry, level: u32) -> bool
+    ensures { result ≡ (ready_of entry.now.progress && nat_lt entry.now.level level) }
+{
+    is_ready(entry.progress) && entry.level < level
+}
+
+/// The first ready obligation of least level, where this one is the first ready one.
+fn lowest_ready(obligations: &[ObligationEntry], first: usize) -> usize
+    requires { IsFirst obligations.now (λ _ e. ready_of e.progress ≡ true) first }
+    ensures { IsBest obligations.now (length obligations.now) result }
+{
+    let mut best = first;
+    'each: for k in first..obligations.len() {
+        if is_lower(&obligations[k], obligations[best].level) {
+            best = k;
+        }
+    }
+    best
+}
+
+/// The first ready obligation of least level.
+fn next_work(obligations: &[ObligationEntry]) -> Option<usize>
+    ensures { IsBestPlace obligations.now (length obligations.now) result }
+{
+    match first_ready(obligations) {
+        Some(first) => Some(lowest_ready(obligations, first)),
+        None => None,
+    }
+}
+
+/// Whether a trace is out.
+fn trace_is_out(jobs: &[JobEntry]) -> bool
+    ensures { result ≡ has_job is_trace jobs.now }
+{
+    jobs.iter().any(|entry| matches!(entry.job, Job::Trace(_)))
+}
+
+/// Whether a look is out.
+fn look_is_out(jobs: &[JobEntry]) -> bool
+    ensures { result ≡ has_job is_look jobs.now }
+{
+    jobs.iter().any(|entry| matches!(entry.job, Job::Look))
+}
+
+fn is_push_at(job: Job, clause: usize) -> bool
+    ensures { result ≡ is_push_of clause job }
+{
+    match job {
+        Job::Push(k) => k as usize == clause,
+        _ => false,
+    }
+}
+
+/// Whether the push of the clause is out.
+fn push_is_out(jobs: &[JobEntry], clause: usize) -> bool
+    ensures { result ≡ has_job (is_push_of clause) jobs.now }
+{
+    jobs.iter().any(|entry| is_push_at(entry.job, clause))
+}
+
+/// How many seed obligations are done.
+pub(crate) fn done_seeds(obligations: &[ObligationEntry]) -> usize
+    ensures value { result ≡ count_by is_done_seed obligations.now }
+    ensures few { result ≤ length obligations.now }
+{
+    obligations
+        .iter()
+        .filter(|entry| entry.parent.is_none() && is_done(entry.progress))
+        .count()
+}
+
+/// How many aren't.
+fn open_seeds(obligations: &[ObligationEntry]) -> usize
+    ensures { result ≡ count_by is_open_seed obligations.now }
+{
+    obligations
+        .iter()
+        .filter(|entry| entry.parent.is_none() && !is_done(entry.progress))
+        .count()
+}
+
+/// Whether some obligation isn't done.
+fn has_open(obligations: &[ObligationEntry]) -> bool
+    ensures { result ≡ list_any (λ e. not (done_of e.progress)) obligations.now }
+{
+    obligations.iter().any(|entry| !is_done(entry.progress))
+}
+
+fn can_rise(entry: &ClauseEntry, frontier: u32) -> bool
+    ensures { result ≡ may_rise frontier entry.now }
+{
+    entry.live && 1 <= entry.level && entry.level <= frontier && entry.failed.is_none()
+}
+
+/// The first clause that is to be pushed.
+fn next_push(clauses: &[ClauseEntry], jobs: &[JobEntry], frontier: u32) -> Option<usize>
+    ensures { IsFirstPlace clauses.now (is_to_push frontier jobs.now) result }
+{
+    'each: for (k, entry) in clauses.iter().enumerate() {
+        if can_rise(entry, frontier) && !push_is_out(jobs, k) {
+            return Some(k);
+        }
+    }
+    None
+}
+
+impl State {
+    /// After the end there is nothing to do.
+    fn ended_task(&self) -> Option<Task>
+        ensures { (sys : System) (limits : Limits) (history : List Event) (m : Machine) →
+            IsMirror sys history m self.now → IsChoice (by_end sys limits m) result }
+    {
+        if self.ended { Some(Task::Ended) } else { None }
+    }
+
+    /// Frames that are a fixed point end the run.
+    fn closed_task(&self) -> Option<Task>
+        ensures { (sys : System) (limits : Limits) (history : List Event) (m : Machine) →
+            IsMirror sys history m self.now → IsChoice (by_closed_level sys limits m) result }
+    {
+        match closed_level(self.clauses.as_slice(), self.secure) {
+            Some(level) => Some(Task::Finish(Short::Safe(level))),
+            None => None,
+        }
+    }
+
+    /// A chain from a violating state back to an initial one is traced, by one worker.
+    fn root_task(&self) -> Option<Task>
+        requires { IsSmall self.now }
+        ensures { (sys : System) (limits : Limits) (history : List Event) (m : Machine) →
+            IsMirror sys history m self.now → IsChoice (by_root sys limits m) result }
+    {
+        match first_rooted(self.obligations.as_slice()) {
+            Some(k) => {
+                if trace_is_out(self.jobs.as_slice()) {
+                    Some(Task::Idle)
+                } else {
+                    Some(Task::Job(Job::Trace(k as u32)))
+                }
+            }
+            None => None,
+        }
+    }
+
+    /// A run that has spent its steps ends.
+    fn spent_task(&self, limits: &Limits) -> Option<Task>
+        ensures { (sys : System) (history : List Event) (m : Machine) →
+            IsMirror sys history m self.now → IsChoice (by_steps sys limits.now m) result }
+    {
+        if limits.steps <= self.productive {
+            Some(Task::Finish(Short::Spent))
+        } else {
+            None
+        }
+    }
+
+    /// Obligations are worked on, those of least level first.
+    fn work_task(&self) -> Option<Task>
+        requires { IsSmall self.now }
+        ensures { (sys : System) (limits : Limits) (history : List Event) (m : Machine) →
+            IsMirror sys history m self.now → IsChoice (by_obligation sys limits m) result }
+    {
+        match next_work(self.obligations.as_slice()) {
+            Some(k) => Some(Task::Job(Job::Work(k as u32))),
+            None => None,
+        }
+    }
+
+    /// Whether no further seed was done since a look found nothing further.
+    fn is_calm(&self) -> bool
+        ensures { IsTrue result ↔
+            (self.now.calm ≡ Some (count_by is_done_seed self.now.obligations.items)) }
+    {
+        let done = done_seeds(self.obligations.as_slice());
+        match self.calm {
+            Some(calm) => calm as usize == done,
+            None => false,
+        }
+    }
+
+    /// Violating states of the frontier's frame are looked for.
+    fn look_task(&self) -> Option<Task>
+        ensures { (sys : System) (limits : Limits) (history : List Event) (m : Machine) →
+            IsMirror sys history m self.now → IsChoice (by_frontier sys limits m) result }
+    {
+        if self.secure >= self.frontier {
+            return None;
+        }
+        if look_is_out(self.jobs.as_slice()) {
+            return None;
+        }
+        if self.is_calm() {
+            return None;
+        }
+        if open_seeds(self.obligations.as_slice()) >= MOST_SEEDS as usize {
+            return None;
+        }
+        Some(Task::Job(Job::Look))
+    }
+
+    /// Clauses are pushed, the first one first.
+    fn push_task(&self) -> Option<Task>
+        requires { IsSmall self.now }
+        ensures { (sys : System) (limits : Limits) (history : List Event) (m : Machine) →
+            IsMirror sys history m self.now → IsChoice (by_clause sys limits m) result }
+    {
+        let clauses = self.clauses.as_slice();
+        match next_push(clauses, self.jobs.as_slice(), self.frontier) {
+            Some(k) => Some(Task::Job(Job::Push(k as u32))),
+            None => None,
+        }
+    }
+
+    /// Whether the frontier is secure, and nothing is left to do.
+    fn is_quiet(&self) -> bool
+        ensures { (sys : System) (history : List Event) (m : Machine) →
+            IsMirror sys history m self.now → (IsTrue result ↔ IsQuiet m) }
+    {
+        if self.secure != self.frontier {
+            return false;
+        }
+        if has_open(self.obligations.as_slice()) {
+            return false;
+        }
+        self.jobs.as_slice().is_empty()
+    }
+
+    /// Where all is done the frontier moves on, up to the limit.
+    fn quiet_task(&self, limits: &Limits) -> Option<Task>
+        ensures { (sys : System) (history : List Event) (m : Machine) →
+            IsMirror sys history m self.now → IsChoice (by_quiet sys limits.now m) result }
+    {
+        if !self.is_quiet() {
+            return None;
+        }
+        if self.frontier < limits.frames {
+            Some(Task::Advance)
+        } else {
+            Some(Task::Finish(Short::Bounded))
+        }
+    }
+
+    /// What is due by the rules on obligations, the frontier, clauses and quiet.
+    fn later_task(&self, limits: &Limits) -> Task
+        requires { IsSmall self.now }
+        ensures { (sys : System) (history : List Event) (m : Machine) →
+            IsMirror sys history m self.now → IsLaterDue sys limits.now m result }
+    {
+        if let Some(task) = self.work_task() {
+            return task;
+        }
+        if let Some(task) = self.look_task() {
+            return task;
+        }
+        if let Some(task) = self.push_task() {
+            return task;
+        }
+        if let Some(task) = self.quiet_task(limits) {
+            return task;
+        }
+        Task::Idle
+    }
+
+    /// What is due.
+    pub(crate) fn due(&self, limits: &Limits) -> Task
+        requires { IsSmall self.now }
+        ensures { (sys : System) (history : List Event) (m : Machine) →
+            IsMirror sys history m self.now → IsDue sys limits.now m result }
+    {
+        if let Some(task) = self.ended_task() {
+            return task;
+        }
+        if let Some(task) = self.closed_task() {
+            return task;
+        }
+        if let Some(task) = self.root_task() {
+            return task;
+        }
+        if let Some(task) = self.spent_task(limits) {
+            return task;
+        }
+        self.later_task(limits)
+    }
+}
