@@ -1,9 +1,15 @@
+pub mod Brought
 pub mod Changing
 pub mod Chosen
 pub mod Counts
 pub mod EventCores
+pub mod Grounded
 pub mod Grown
+pub mod Marks
 pub mod Mirrors
 pub mod NextCores
 pub mod Pairing
+pub mod Refuters
 pub mod Roomy
+pub mod Tried
+pub mod WorldCores

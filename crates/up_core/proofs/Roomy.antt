@@ -76,7 +76,7 @@ module _ (G : Given → Type 0) where
   IsGoodTake (E.Take w j) (Some g) = G g
   IsGoodTake e job = Unit {0}
 
-  each-job : (e : Event) (job : Option Given) (js : List Held) → IsGoodTake e job → Each js (λ k. HasGiven) → Each (jobs_after e job js) (λ k. HasGiven)
+  pub each-job : (e : Event) (job : Option Given) (js : List Held) → IsGoodTake e job → Each js (λ k. HasGiven) → Each (jobs_after e job js) (λ k. HasGiven)
   each-job (E.Take w j) None js new h = h
   each-job (E.Take w j) (Some g) js new h = each-push js (record { worker = w; given = g }) HasGiven h new
   each-job (E.Advance w) job js new h = h

@@ -1,5 +1,5 @@
 -- Which clause, by its entry, refutes a state.
-use Rattle.std.specs.Prelude.{◌≡◌, ℕ, ◌≤◌, true, List, length, Option, Some, slice_get, MatchOption}
+use Rattle.std.specs.Prelude.{◌≡◌, ℕ, ◌-◌, ◌<◌, ◌≤◌, true, List, length, Option, None, Some, slice_get, MatchOption}
 use Rattle.std.specs.Option.{option_and_then}
 use Rattle.fo_core.specs.declared.signature.Sig.{Sig}
 use Rattle.fo_core.specs.declared.world.World.{World}
@@ -13,7 +13,7 @@ use Rattle.up_core.specs.declared.state.JobEntry.{JobEntry}
 use Rattle.up_core.specs.declared.state.ObligationEntry.{ObligationEntry}
 use Rattle.up_core.specs.declared.state.State.{State}
 use Rattle.up_core.specs.Mirror.{IsCubeAt, IsWorldAt}
-use Rattle.up_core.specs.Steps.{work_in}
+use Rattle.up_core.specs.Steps.{work_in, push_in}
 
 module _ (history : List Event) (sig : Sig) (w : World) where
   -- copy 0 may be tried against the cube that the event at this place learnt, in this room
@@ -67,3 +67,24 @@ module _ (history : List Event) (sig : Sig) (worker : ℕ) where
   IsFirstOwn s place =
       (world : World) (level : ℕ) → IsOwn history worker s world level →
       IsFirstMet history sig world level s.clauses.items place
+
+-- the entry of the clause that a worker pushes
+abbrev pub pushed_in : ℕ → List ClauseEntry → List JobEntry → Option ClauseEntry
+pushed_in w clauses jobs = option_and_then (slice_get clauses) (push_in w jobs)
+
+module _ (history : List Event) (sig : Sig) (world : World) (worker : ℕ) (s : State) (place : Option ℕ) where
+  -- The first clause that refutes the state in the frame below the obligation that is worked on;
+  -- none below level 2.
+  pub record IsFirstBelow : Type 0 where
+    pub high : (entry : ObligationEntry) →
+        own_in worker s.obligations.items s.jobs.items ≡ Some entry → 2 ≤ entry.level →
+        IsFirstMet history sig world (entry.level - 1) s.clauses.items place
+    pub low : (entry : ObligationEntry) →
+        own_in worker s.obligations.items s.jobs.items ≡ Some entry → entry.level < 2 →
+        place ≡ None
+
+  -- the first clause that refutes the state in the frame of the clause that is pushed
+  abbrev pub IsFirstPushed : Type 0
+  IsFirstPushed =
+      (entry : ClauseEntry) → pushed_in worker s.clauses.items s.jobs.items ≡ Some entry →
+      IsFirstMet history sig world entry.level s.clauses.items place

@@ -1,10 +1,12 @@
 -- What contracts see of the machine in code.
-use Rattle.std.specs.Prelude.{◌≡◌, ℕ, ◌-◌, ◌≤◌, List, [], ◌∷◌, ◌++◌, length, sum, Some, slice_get, ⊤}
+use Rattle.std.specs.Prelude.{◌≡◌, ℕ, ◌-◌, ◌^◌, ◌<◌, ◌≤◌, List, [], ◌∷◌, ◌++◌, length, sum, Some, slice_get, ⊤}
 use Rattle.fo_core.specs.declared.order.Order.{Order}
 use Rattle.fo_core.specs.declared.system.System.{System}
 use Rattle.fo_core.specs.declared.world.World.{World}
 use Rattle.up_claims.specs.declared.report.Numbers.{Numbers}
 use Rattle.up_machine.specs.declared.event.Event.{Event}
+use Rattle.up_machine.specs.declared.event.Origin.{Origin}
+use Rattle.up_machine.specs.declared.event.Origin.TheVariants as O
 use Rattle.up_machine.specs.declared.job.Job.{Job}
 use Rattle.up_machine.specs.declared.job.Job.TheVariants as J
 use Rattle.up_machine.specs.declared.limits.Limits.{Limits}
@@ -59,3 +61,11 @@ HasVariablesForJob c (J.Work k) = HasVariablesFor c k
 HasVariablesForJob c J.Look = ⊤
 HasVariablesForJob c (J.Push k) = ⊤
 HasVariablesForJob c (J.Trace k) = ⊤
+
+-- how many elements the state has that an origin makes an obligation's, if it makes one
+abbrev pub elements_in : Origin → ℕ
+elements_in (O.Initial u) = 0
+elements_in (O.Step p) = sum p.sizes
+
+abbrev pub HasFewElements : Origin → Type 0
+HasFewElements origin = elements_in origin < 2 ^ 32

@@ -2,11 +2,15 @@
 //! legal at all times, and numbers that are the history's replay.
 #![tactic(auto)]
 
+mod bringing;
 mod events;
 mod kept;
 mod lists;
+mod refuting;
 mod state;
 mod steps;
 mod tasks;
+mod trying;
+mod worlds;
 
 pub use kept::Core;

@@ -1,0 +1,8 @@
+use Rattle.up_core.proofs.state.State.root.Goals as goal
+
+pub returns-clause-room : goal.returns-clause-room
+returns-clause-room c n h = record {
+  clauses = h.clauses;
+  obligations = c.set_progress.ensures.room n h.obligations;
+  jobs = c.release.ensures.room n h.jobs;
+}

@@ -1,0 +1,191 @@
+//! What events that bring a world do to the numbers, and those that change a clause. None takes
+//! memory. A world is named by the place that its event is to have in the history.
+
+ghost use Rattle.std.specs.Prelude.{◌≡◌, ℕ, ◌+◌, ◌<◌, ◌^◌, None, Some, [], ◌∷◌, ◌++◌, length};
+ghost use Rattle.std.specs.Option.{option_to_list};
+ghost use Rattle.up_machine.specs.Replay.{change_at};
+ghost use Rattle.up_core.specs.declared.state.Progress.TheVariants.{Ready, Rooted, Waiting};
+ghost use Rattle.up_core.specs.Becoming.{IsPreceded, IsState};
+ghost use Rattle.up_core.specs.Room.{HasRoom, HasSpare};
+ghost use Rattle.up_core.specs.Steps.{change_where, entry_before, failed_entry, gone_entry, others_of, progress_of, push_in, with_progress, work_in};
+
+use crate::lists::{push_of, release, set_progress, work_of};
+use crate::state::{ClauseEntry, ObligationEntry, Progress, State};
+use up_machine::Origin;
+
+/// The entry of a step before the obligation at a place, if one is given that is there.
+fn step_before(
+    obligations: &[ObligationEntry],
+    place: Option<usize>,
+    found: usize,
+) -> Option<ObligationEntry>
+    requires { length obligations.now < 2 ^ 32 }
+    ensures { result ≡ entry_before obligations.now place found }
+{
+    match place {
+        Some(k) => match obligations.get(k) {
+            Some(entry) => Some(ObligationEntry {
+                level: entry.level.saturating_sub(1),
+                found,
+                parent: Some(k as u32),
+                progress: first_progress(entry.level, found),
+            }),
+            None => None,
+        },
+        None => None,
+    }
+}
+
+/// A step into an obligation of level 1 begins in an initial state, so it is its own root.
+fn first_progress(level: u32, found: usize) -> Progress
+    ensures { result ≡ progress_of level found }
+{
+    if level >= 2 {
+        Progress::Ready
+    } else {
+        Progress::Rooted(found)
+    }
+}
+
+/// Puts an entry behind the others, if one is given.
+fn push_if(obligations: &mut Vec<ObligationEntry>, entry: Option<ObligationEntry>)
+    requires { HasRoom 1 obligations.old }
+    ensures items { obligations.new.items ≡ obligations.old.items ++ option_to_list entry }
+    ensures room { (n : ℕ) → HasRoom (n + 1) obligations.old → HasRoom n obligations.new }
+{
+    if let Some(entry) = entry {
+        obligations.push_reserved(entry);
+    }
+}
+
+/// Sets the valid failed push of the clause at a place, if one is given that is there.
+fn set_failed(clauses: &mut Vec<ClauseEntry>, place: Option<usize>, found: usize)
+    ensures items { clauses.new.items ≡
+        change_where place (failed_entry found) clauses.old.items }
+    ensures room { (n : ℕ) → HasRoom n clauses.old → HasRoom n clauses.new }
+{
+    if let Some(k) = place {
+        if k < clauses.len() {
+            clauses[k].failed = Some(found);
+        }
+    }
+}
+
+/// The clause at a place goes, if it is there.
+fn set_gone(clauses: &mut Vec<ClauseEntry>, place: usize)
+    ensures items { clauses.new.items ≡ change_at place gone_entry clauses.old.items }
+    ensures room { (n : ℕ) → HasRoom n clauses.old → HasRoom n clauses.new }
+{
+    if place < clauses.len() {
+        let entry = &mut clauses[place];
+        entry.live = false;
+        entry.failed = None;
+    }
+}
+
+impl State {
+    /// A violating state of the frontier's frame becomes an obligation.
+    pub(crate) fn seed(&mut self, worker: u32, found: usize)
+        requires productive { self.old.productive + 1 < 2 ^ 32 }
+        requires room { HasSpare 1 self.old }
+        ensures state { let s = self.old in IsState self.new
+            s.clauses.items
+            (s.obligations.items ++ record {
+              level = s.frontier;
+              found = found;
+              parent = None;
+              progress = Ready;
+            } ∷ [])
+            (others_of worker s.jobs.items)
+            s.frontier s.secure s.calm (s.productive + 1) s.ended }
+        ensures room { (n : ℕ) → HasSpare (n + 1) self.old → HasSpare n self.new }
+    {
+        self.obligations.push_reserved(ObligationEntry {
+            level: self.frontier,
+            found,
+            parent: None,
+            progress: Progress::Ready,
+        });
+        release(&mut self.jobs, worker);
+        self.productive += 1;
+    }
+
+    /// An initial state was found in which the obligation that the worker works on embeds.
+    pub(crate) fn root(&mut self, worker: u32, found: usize)
+        requires { self.old.productive + 1 < 2 ^ 32 }
+        ensures state { let s = self.old in IsState self.new
+            s.clauses.items
+            (change_where (work_in worker s.jobs.items) (with_progress (Rooted found))
+            s.obligations.items)
+            (others_of worker s.jobs.items)
+            s.frontier s.secure s.calm (s.productive + 1) s.ended }
+        ensures room { (n : ℕ) → HasSpare n self.old → HasSpare n self.new }
+    {
+        let work = work_of(self.jobs.as_slice(), worker);
+        set_progress(&mut self.obligations, work, Progress::Rooted(found));
+        release(&mut self.jobs, worker);
+        self.productive += 1;
+    }
+
+    /// A step before the obligation that the worker works on becomes an obligation.
+    pub(crate) fn precede(&mut self, worker: u32, found: usize)
+        requires productive { self.old.productive + 1 < 2 ^ 32 }
+        requires small { length self.old.obligations.items < 2 ^ 32 }
+        requires room { HasSpare 1 self.old }
+        ensures state { let s = self.old in let work = work_in worker s.jobs.items in
+            IsState self.new
+            s.clauses.items
+            (change_where work (with_progress Waiting) s.obligations.items
+            ++ option_to_list (entry_before s.obligations.items work found))
+            (others_of worker s.jobs.items)
+            s.frontier s.secure s.calm (s.productive + 1) s.ended }
+        ensures room { (n : ℕ) → HasSpare (n + 1) self.old → HasSpare n self.new }
+    {
+        let work = work_of(self.jobs.as_slice(), worker);
+        let before = step_before(self.obligations.as_slice(), work, found);
+        set_progress(&mut self.obligations, work, Progress::Waiting);
+        push_if(&mut self.obligations, before);
+        release(&mut self.jobs, worker);
+        self.productive += 1;
+    }
+
+    /// What was found before the obligation that the worker works on.
+    pub(crate) fn precede_by(&mut self, worker: u32, origin: &Origin, found: usize)
+        requires productive { self.old.productive + 1 < 2 ^ 32 }
+        requires small { length self.old.obligations.items < 2 ^ 32 }
+        requires room { HasSpare 1 self.old }
+        ensures state { IsPreceded origin.now worker found self.old self.new }
+        ensures room { (n : ℕ) → HasSpare (n + 1) self.old → HasSpare n self.new }
+    {
+        match origin {
+            Origin::Initial(_) => self.root(worker, found),
+            Origin::Step(_) => self.precede(worker, found),
+        }
+    }
+
+    /// The clause that the worker pushes doesn't hold one frame further on.
+    pub(crate) fn fail(&mut self, worker: u32, found: usize)
+        requires { self.old.productive + 1 < 2 ^ 32 }
+        ensures state { let s = self.old in IsState self.new
+            (change_where (push_in worker s.jobs.items) (failed_entry found) s.clauses.items)
+            s.obligations.items (others_of worker s.jobs.items)
+            s.frontier s.secure s.calm (s.productive + 1) s.ended }
+        ensures room { (n : ℕ) → HasSpare n self.old → HasSpare n self.new }
+    {
+        let push = push_of(self.jobs.as_slice(), worker);
+        set_failed(&mut self.clauses, push, found);
+        release(&mut self.jobs, worker);
+        self.productive += 1;
+    }
+
+    /// A clause goes.
+    pub(crate) fn retire(&mut self, gone: usize)
+        ensures state { let s = self.old in IsState self.new
+            (change_at gone gone_entry s.clauses.items)
+            s.obligations.items s.jobs.items
+            s.frontier s.secure s.calm s.productive s.ended }
+        ensures room { (n : ℕ) → HasSpare n self.old → HasSpare n self.new }
+    {
+        set_gone(&mut self.clauses, gone);
+    }
+}
