@@ -5,6 +5,7 @@ pub mod Counts
 pub mod EventCores
 pub mod Grounded
 pub mod Grown
+pub mod Listed
 pub mod Marks
 pub mod Mirrors
 pub mod NextCores
