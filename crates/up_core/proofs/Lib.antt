@@ -1,3 +1,4 @@
+pub mod Briefed
 pub mod Brought
 pub mod Changing
 pub mod Chosen
@@ -12,5 +13,6 @@ pub mod NextCores
 pub mod Pairing
 pub mod Refuters
 pub mod Roomy
+pub mod Taken
 pub mod Tried
 pub mod WorldCores

@@ -1,4 +1,5 @@
 pub mod Becoming
+pub mod Briefing
 pub mod Choice
 pub mod Holding
 pub mod Known
@@ -7,4 +8,5 @@ pub mod Mirror
 pub mod Refuting
 pub mod Room
 pub mod Steps
+pub mod Taking
 pub mod View

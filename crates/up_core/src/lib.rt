@@ -2,6 +2,8 @@
 //! legal at all times, and numbers that are the history's replay.
 #![tactic(auto)]
 
+mod brief_laws;
+mod briefs;
 mod bringing;
 mod events;
 mod frames;
@@ -14,4 +16,5 @@ mod tasks;
 mod trying;
 mod worlds;
 
+pub use brief_laws::takes_keep_briefs;
 pub use kept::Core;
