@@ -1,13 +1,12 @@
 -- The brief by the entries is that of what a worker who takes the job is given.
-use Rattle.std.proofs.Common.{◌≡◌, ℕ, zero, suc, ◌-◌, ◌^◌, ◌<◌, Bool, true, false, cond, ◌&&◌, not, nat_eq, List, [], ◌∷◌, ◌++◌, map, filter, Option, None, Some, is_none, slice_get, refl, sym, ap, subst, ◌∙◌, arith, true≢false}
-use Rattle.std.specs.Prelude.{option_map, sum}
+use Rattle.std.proofs.Common.{◌≡◌, ℕ, zero, suc, ◌-◌, ◌^◌, ◌<◌, Bool, true, false, cond, ◌&&◌, nat_eq, List, [], ◌∷◌, ◌++◌, map, filter, Option, None, Some, slice_get, refl, sym, ap, subst, ◌∙◌, arith, true≢false}
+use Rattle.std.specs.Prelude.{option_map}
 use Rattle.std.specs.Option.{option_and_then, option_to_list}
 use Rattle.std.specs.Global.{Vec}
 use Rattle.fo_core.specs.declared.order.Order.{Order}
 use Rattle.fo_core.specs.declared.signature.Sig.{Sig}
 use Rattle.fo_core.specs.declared.system.System.{System}
 use Rattle.fo_core.specs.declared.world.World.{World}
-use Rattle.fo_core.specs.Tables.{Fits}
 use Rattle.up_claims.specs.Frames.{frame_at}
 use Rattle.up_diagram.specs.declared.cube.Cube.{Cube}
 use Rattle.up_diagram.specs.Diagrams.{CanDescribe}
@@ -19,7 +18,7 @@ use Rattle.up_machine.specs.declared.limits.Limits.{Limits}
 use Rattle.up_machine.specs.Briefs.{brief_of, cubes_in}
 use Rattle.up_machine.specs.Due.{job_of}
 use Rattle.up_machine.specs.Finding.{HoldsJob, state_cube, state_cubes}
-use Rattle.up_machine.specs.Machine.{Clause, Obligation, Given, Work, Look, Push, Trace, Machine, cubes_from, frame, is_unfinished_seed, to_avoid, done_seeds, held_by}
+use Rattle.up_machine.specs.Machine.{Clause, Obligation, Given, Work, Look, Push, Trace, Machine, cubes_from, frame, is_unfinished_seed, to_avoid, done_seeds}
 use Rattle.up_machine.specs.Replay.{given_work, given_push, given_trace, given_for, replay}
 use Rattle.up_machine.specs.Sound.{IsFit, IsSoundGiven}
 use Rattle.up_machine.proofs.Fit.{history_fit}
@@ -33,7 +32,7 @@ use Rattle.up_core.specs.Briefing.{AreDescribable, avoided, work_brief, look_bri
 use Rattle.up_core.specs.Choice.{is_open_seed}
 use Rattle.up_core.specs.Holding.{IsCore}
 use Rattle.up_core.specs.Listing.{listed}
-use Rattle.up_core.specs.Mirror.{Pairs, IsClauseOf, IsObligationOf, IsMirror, IsWorldAt, world_of}
+use Rattle.up_core.specs.Mirror.{Pairs, IsClauseOf, IsObligationOf, IsMirror, world_of}
 use Rattle.up_core.specs.Steps.{entry_of}
 use Rattle.up_core.proofs.Chosen.{open_seed-same}
 use Rattle.up_core.proofs.Listed.{listed-is}

@@ -2,7 +2,6 @@
 use Rattle.std.proofs.Common.{◌≡◌, ℕ, zero, suc, Bool, true, false, cond, ◌&&◌, not, nat_eq, List, [], ◌∷◌, ◌++◌, map, filter, find, length, Option, None, Some, is_none, slice_get, refl, sym, ap, subst, ◌∙◌, eq-eqb}
 use Rattle.std.specs.Prelude.{option_map}
 use Rattle.fo_core.specs.declared.system.System.{System}
-use Rattle.fo_core.specs.declared.world.World.{World}
 use Rattle.up_machine.specs.declared.event.Event.{Event}
 use Rattle.up_machine.specs.declared.event.Event.TheVariants as E
 use Rattle.up_machine.specs.declared.job.Job.{Job}
@@ -11,7 +10,7 @@ use Rattle.up_machine.specs.declared.job.Task.TheVariants as T
 use Rattle.up_machine.specs.declared.limits.Limits.{Limits}
 use Rattle.up_machine.specs.Due.{IsDue, job_of}
 use Rattle.up_machine.specs.Legal.{IsLegal, AreLegal, Legal}
-use Rattle.up_machine.specs.Machine.{Clause, Status, Ready, Out, Obligation, Given, Work, Look, Push, Trace, Held, Machine, start, cubes_from, is_done, is_done_seed, is_unfinished_seed, to_avoid, done_seeds, held_by}
+use Rattle.up_machine.specs.Machine.{Clause, Ready, Out, Obligation, Given, Work, Look, Push, Trace, Held, Machine, start, cubes_from, is_done, is_done_seed, is_unfinished_seed, to_avoid, done_seeds, held_by}
 use Rattle.up_machine.specs.Replay.{change_at, with_status, set_status, given_work, given_push, given_trace, given_for, worker_of, jobs_after, obligations_after, happens, run, replay}
 use Rattle.up_machine.specs.Sound.{Each}
 use Rattle.up_machine.proofs.Dues.{due_work}
@@ -205,3 +204,7 @@ takes-keep sys limits history w held legal since holds =
     let same = subst (λ (n : Machine). held_by n.jobs w ≡ given_for n since.job) (sym replayed) (held-now sys limits m w since.job since.takes since.others last) in
     let given = sym same ∙ holds in
     subst (λ j. given_for (replay history) j ≡ Some held) (sym (given-job (replay history) since.job held given)) given
+
+-- what a worker would be given now is what it holds
+pub same-given : (m : Machine) (w : ℕ) (g held given : Given) → held_by m.jobs w ≡ Some g → held_by m.jobs w ≡ Some held → given_for m (job_of g) ≡ Some given → given_for m (job_of held) ≡ Some held → given ≡ held
+same-given m w g held given a b c d = some_injective given held (sym c ∙ ap (λ x. given_for m (job_of x)) (some_injective g held (sym a ∙ b)) ∙ d)

@@ -1,5 +1,5 @@
 -- Which brief a worker is to be given, and what it is by the entries.
-use Rattle.std.specs.Prelude.{◌≡◌, ℕ, ◌-◌, ◌&&◌, cond, nat_eq, List, [], ◌∷◌, ◌++◌, Option, None, Some, option_map, slice_get}
+use Rattle.std.specs.Prelude.{◌≡◌, ℕ, ◌-◌, ◌&&◌, cond, nat_eq, List, [], Option, None, Some, option_map, slice_get}
 use Rattle.std.specs.List.{flat_map}
 use Rattle.std.specs.Option.{option_and_then, option_to_list}
 use Rattle.fo_core.specs.declared.signature.Sig.{Sig}
@@ -9,7 +9,6 @@ use Rattle.up_diagram.specs.declared.cube.Cube.{Cube}
 use Rattle.up_diagram.specs.Diagrams.{CanDescribe}
 use Rattle.up_machine.specs.declared.brief.Brief.{Brief}
 use Rattle.up_machine.specs.declared.event.Event.{Event}
-use Rattle.up_machine.specs.declared.event.Event.TheVariants as E
 use Rattle.up_machine.specs.declared.job.Job.{Job}
 use Rattle.up_machine.specs.declared.job.Job.TheVariants as J
 use Rattle.up_machine.specs.Briefs.{brief_of, cubes_in}
@@ -17,7 +16,6 @@ use Rattle.up_machine.specs.Due.{job_of}
 use Rattle.up_machine.specs.Finding.{state_cube}
 use Rattle.up_machine.specs.Machine.{Given, held_by}
 use Rattle.up_machine.specs.Replay.{given_for}
-use Rattle.up_machine.specs.Sound.{Each}
 use Rattle.up_core.specs.declared.state.ClauseEntry.{ClauseEntry}
 use Rattle.up_core.specs.declared.state.ObligationEntry.{ObligationEntry}
 use Rattle.up_core.specs.declared.state.State.{State}
@@ -33,6 +31,11 @@ pub record IsBriefNow (c : CoreView) (w : ℕ) (brief : Brief) : Type 0 where
   pub given : Given
   pub now_is : given_for (now c) (job_of held) ≡ Some given
   pub brief_is : brief ≡ brief_of c.sys.sig given
+
+-- the brief of what the worker holds: of what it was given at its take
+abbrev pub IsBriefHeld : CoreView → ℕ → Brief → Type 0
+IsBriefHeld c w brief =
+    (held : Given) → held_by (now c).jobs w ≡ Some held → brief ≡ brief_of c.sys.sig held
 
 -- inside the crate: the same, by the entries
 

@@ -1,8 +1,7 @@
 -- Which cubes the entries of clauses stand for.
-use Rattle.std.specs.Prelude.{ℕ, ◌&&◌, cond, nat_le, List, []}
+use Rattle.std.specs.Prelude.{ℕ, ◌&&◌, cond, nat_le, List, [], slice_get}
 use Rattle.std.specs.List.{flat_map}
 use Rattle.std.specs.Option.{option_and_then, option_to_list}
-use Rattle.std.specs.Prelude.{slice_get}
 use Rattle.fo_core.specs.declared.system.System.{System}
 use Rattle.fo_core.specs.declared.world.World.{World}
 use Rattle.fo_core.specs.Runs.{Reach}

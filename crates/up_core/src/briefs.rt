@@ -2,15 +2,15 @@
 
 ghost use Rattle.std.specs.Prelude.{◌≡◌, ◌++◌, ◌^◌, ◌<◌, IfOk, OnOk, option_map, slice_get};
 ghost use Rattle.std.specs.Option.{option_and_then};
-ghost use Rattle.fo_core.specs.declared.world.World.{World};
 ghost use Rattle.up_claims.specs.Frames.{frame_at};
 ghost use Rattle.up_diagram.specs.Diagrams.{CanDescribe};
 ghost use Rattle.up_machine.specs.Briefs.{cubes_in};
 ghost use Rattle.up_machine.specs.Finding.{HoldsJob, state_cube};
-ghost use Rattle.up_core.specs.Briefing.{AreDescribable, IsBriefNow, avoided, brief_at, look_brief, push_brief, state_from, trace_brief, work_brief};
+ghost use Rattle.up_core.specs.Briefing.{AreDescribable, IsBriefHeld, IsBriefNow, avoided, brief_at, look_brief, push_brief, state_from, trace_brief, work_brief};
 ghost use Rattle.up_core.specs.Choice.{is_open_seed};
 ghost use Rattle.up_core.specs.Listing.{listed};
 ghost use Rattle.up_core.specs.Mirror.{IsWorldAt, world_of};
+ghost use Rattle.up_core.specs.Taking.{HasOnlyTakesSince};
 ghost use Rattle.up_core.specs.View.{now};
 
 use crate::frames::{copy_cube_at, copy_cubes};
@@ -18,7 +18,7 @@ use crate::kept::Core;
 use crate::lists::job_of;
 use crate::refuting::world_at;
 use crate::state::{ClauseEntry, ObligationEntry, Progress, State};
-use fo_core::{Seq, Sig};
+use fo_core::{Seq, Sig, World};
 use std::alloc::{AllocError, Global};
 use up_diagram::{Cube, diagram};
 use up_machine::{Brief, Event, Job};
@@ -28,7 +28,7 @@ fn copy_world_at(
     alloc: Global,
     history: &[Event],
     place: usize,
-) -> Result<Option<fo_core::World>, AllocError>
+) -> Result<Option<World>, AllocError>
     ensures { IfOk result (λ world. world ≡
         option_and_then world_of (slice_get history.now place)) }
 {
@@ -45,7 +45,7 @@ fn diagram_at(
     history: &[Event],
     place: usize,
 ) -> Result<Option<Cube>, AllocError>
-    requires { (w : World) → IsWorldAt history.now place w → CanDescribe sig.now w 0 }
+    requires { (w : _) → IsWorldAt history.now place w → CanDescribe sig.now w 0 }
     ensures { IfOk result (λ cube. cube ≡ option_map (state_cube sig.now)
         (option_and_then world_of (slice_get history.now place))) }
 {
@@ -71,7 +71,7 @@ fn push_state(
     entry: &ObligationEntry,
     cubes: &mut Seq<Cube>,
 ) -> Result<(), AllocError>
-    requires { (w : World) → IsWorldAt history.now entry.now.found w → CanDescribe sig.now w 0 }
+    requires { (w : _) → IsWorldAt history.now entry.now.found w → CanDescribe sig.now w 0 }
     ensures { OnOk result (cubes.new ≡
         cubes.old ++ state_from sig.now history.now level entry.now) }
 {
@@ -280,10 +280,13 @@ fn is_narrow(_number: u32)
 impl Core {
     /// The brief of the job that the worker holds, as the frames and obligations are now.
     ///
-    /// It asks that the worker holds a job. The one error is out of memory.
+    /// It asks that the worker holds a job. Where since its take only others took jobs, it is the
+    /// brief of what the worker was given. The one error is out of memory.
     pub fn brief(&self, alloc: Global, worker: u32) -> Result<Brief, AllocError>
         requires { HoldsJob (now self.now) worker }
-        ensures { IfOk result (λ brief. IsBriefNow self.now worker brief) }
+        ensures now_is { IfOk result (λ brief. IsBriefNow self.now worker brief) }
+        ensures taken { HasOnlyTakesSince self.now.history worker →
+            IfOk result (λ brief. IsBriefHeld self.now worker brief) }
     {
         // No obligation's state has more elements than this, so each can be described.
         is_narrow(self.widest);
