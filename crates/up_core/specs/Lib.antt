@@ -2,6 +2,7 @@ pub mod Becoming
 pub mod Choice
 pub mod Holding
 pub mod Known
+pub mod Lapsing
 pub mod Mirror
 pub mod Refuting
 pub mod Room

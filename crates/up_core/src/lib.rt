@@ -5,11 +5,14 @@
 mod bringing;
 mod events;
 mod kept;
+mod lapsing;
+mod learning;
 mod lists;
 mod refuting;
 mod state;
 mod steps;
 mod tasks;
+mod teaching;
 mod trying;
 mod worlds;
 
