@@ -4,6 +4,7 @@ pub mod Chosen
 pub mod Coming
 pub mod Counts
 pub mod EventCores
+pub mod FrameLists
 pub mod Grounded
 pub mod Grown
 pub mod Lapsed

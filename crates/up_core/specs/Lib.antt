@@ -1,5 +1,6 @@
 pub mod Becoming
 pub mod Choice
+pub mod Framed
 pub mod Holding
 pub mod Known
 pub mod Lapsing

@@ -4,6 +4,7 @@
 
 mod bringing;
 mod events;
+mod frames;
 mod kept;
 mod lapsing;
 mod learning;
