@@ -58,7 +58,7 @@ module _ (sys : System) (limit : ℕ) (told : Verdict) where
 
   -- ---- one spot
 
-  here : (s : Spot) → IsSpotReached sys limit told (s ∷ []) s
+  pub here : (s : Spot) → IsSpotReached sys limit told (s ∷ []) s
   here s = record { before = []; after = []; parts = refl; cleared = All-nil C }
 
   pub found-one : (s : Spot) (a : Answer) → IsTried sys.sig limit (Passes sys told s) (queries_at sys told s) a → s.number ≡ 0 → IsFound sys limit told (s ∷ []) (answer_told s.what a)

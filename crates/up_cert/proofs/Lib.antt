@@ -1,8 +1,10 @@
 pub mod ChainPasses
 pub mod FoundLemmas
 pub mod Judgements
+pub mod LookLemmas
 pub mod Numbered
 pub mod PassLemmas
 pub mod QueryLemmas
 pub mod SpotLemmas
 pub mod TriedLemmas
+pub mod VerdictsFound

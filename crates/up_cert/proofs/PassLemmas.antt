@@ -1,5 +1,5 @@
 -- All spots of a verdict pass exactly where it holds.
-use Rattle.std.proofs.Common.{◌≡◌, ◌↔◌, ℕ, zero, suc, ◌+◌, ◌-◌, ◌<◌, ◌≤◌, ◌⊎◌, inl, inr, List, [], ◌∷◌, ◌++◌, Some, length, get_or, refl, sym, subst, ◌∙◌, arith}
+use Rattle.std.proofs.Common.{◌≡◌, ◌↔◌, ℕ, zero, suc, ◌+◌, ◌-◌, ◌<◌, ◌≤◌, ◌⊎◌, inl, inr, List, [], ◌∷◌, ◌++◌, Some, length, get_or, refl, sym, ap, subst, ◌∙◌, arith}
 use Rattle.std.specs.Prelude.{slice_get}
 use Rattle.std.specs.List.{All}
 use Rattle.std.proofs.lemmas.Bool.{cases_lt}
@@ -9,6 +9,7 @@ use Rattle.fo_core.specs.declared.system.System.{System}
 use Rattle.fo_core.specs.declared.world.World.{World}
 use Rattle.fo_core.specs.Runs.{IsState, IsViolatingRun}
 use Rattle.fo_core.proofs.ListFacts.{all_left, all_right, all_map, all_mapped}
+use Rattle.up_diagram.specs.declared.cube.Cube.{Cube}
 use Rattle.up_claims.specs.declared.verdict.Kept.{Kept}
 use Rattle.up_claims.specs.declared.verdict.Leave.{Leave}
 use Rattle.up_claims.specs.declared.verdict.Link.{Link}
@@ -27,10 +28,10 @@ use Rattle.up_cert.proofs.Numbered.{each-from, each-to, one-from, one-to}
 use Rattle.up_cert.proofs.SpotLemmas.{run-states}
 
 -- what holds of the clauses' cubes, or of the clauses, holds of each by its number
-cubes-by-number : (P : _) (clauses : List Kept) → All P (cubes_of clauses) → (k : ℕ) → k < length clauses → P (clause_at clauses k).cube
+cubes-by-number : (P : Cube → Type 0) (clauses : List Kept) → All P (cubes_of clauses) → (k : ℕ) → k < length clauses → P (clause_at clauses k).cube
 cubes-by-number P clauses h k lt = all_map P (λ (kept : Kept). kept.cube) clauses h k no_clause lt
 
-numbers-of-cubes : (P : _) (clauses : List Kept) → ((k : ℕ) → k < length clauses → P (clause_at clauses k).cube) → All P (cubes_of clauses)
+numbers-of-cubes : (P : Cube → Type 0) (clauses : List Kept) → ((k : ℕ) → k < length clauses → P (clause_at clauses k).cube) → All P (cubes_of clauses)
 numbers-of-cubes P clauses h = all_mapped P (λ (kept : Kept). kept.cube) clauses (All-from_get_or (λ (kept : Kept). P kept.cube) clauses no_clause h)
 
 module _ (sys : System) where
@@ -127,7 +128,7 @@ module _ (sys : System) where
 
     -- number k + 1 less 1
     leaf : (k : ℕ) → leave_at leaves (k + 1 - 1) ≡ leave_at leaves k
-    leaf k = let e : k + 1 - 1 ≡ k = omega arith in rw e refl
+    leaf k = let e : k + 1 - 1 ≡ k = omega arith in ap (leave_at leaves) e
 
     left-from : length leaves ≡ last → All B (leaves_to last) → AreLeaves sys last clauses leaves
     left-from long h = record {

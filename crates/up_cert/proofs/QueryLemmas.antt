@@ -3,10 +3,11 @@ use Rattle.std.proofs.Common.{◌≡◌, ℕ, zero, suc, ◌+◌, ◌<◌, ◌�
 use Rattle.std.specs.List.{flat_map}
 use Rattle.std.proofs.Math.Seq.{take-length}
 use Rattle.std.proofs.lemmas.Grind.{flat_map-append}
-use Rattle.std.proofs.lemmas.List.{map_more}
+use Rattle.std.proofs.lemmas.List.{append-nil, map_more}
 use Rattle.fo_core.specs.declared.query.Query.{Query}
 use Rattle.fo_core.specs.declared.system.System.{System}
 use Rattle.fo_core.specs.declared.world.World.{World}
+use Rattle.up_diagram.specs.declared.cube.Cube.{Cube}
 use Rattle.up_claims.specs.declared.verdict.Kept.{Kept}
 use Rattle.up_claims.specs.declared.verdict.Leave.{Leave}
 use Rattle.up_claims.specs.declared.verdict.Link.{Link}
@@ -21,12 +22,7 @@ use Rattle.up_cert.specs.declared.spot.What.{What}
 use Rattle.up_cert.specs.declared.spot.What.TheVariants as what
 use Rattle.up_cert.specs.VerdictSpots.{queries_at, spots_of, spot, each_below, spots_below, leaves_to, links_below, link_spots, clause_spots, frame_spots, clause_at, no_clause}
 
--- nothing more behind
-append_nothing : {X : Type 0} (xs : List X) → xs ++ [] ≡ xs
-append_nothing [] = refl
-append_nothing (x ∷ xs) = ap (λ (l : List _). x ∷ l) (append_nothing xs)
-
-maps-cubes : (g : _ → Query) (clauses : List Kept) → map (λ (kept : Kept). g kept.cube) clauses ≡ map g (cubes_of clauses)
+maps-cubes : (g : Cube → Query) (clauses : List Kept) → map (λ (kept : Kept). g kept.cube) clauses ≡ map g (cubes_of clauses)
 maps-cubes g [] = refl
 maps-cubes g (kept ∷ clauses) = ap (λ (l : List Query). g kept.cube ∷ l) (maps-cubes g clauses)
 
@@ -44,7 +40,7 @@ module _ (Q : Spot → List Query) where
       let lt : n < length clauses = omega (arith, le) in
       let e : n + 1 ≡ suc n = omega arith in
       flat_map-append Q (spots_below w n) (spot w n ∷ []) ∙
-      ap₂ (λ (a b : List Query). a ++ b) (one-below w g clauses one n (omega (arith, le))) (append_nothing (Q (spot w n)) ∙ one n) ∙
+      ap₂ (λ (a b : List Query). a ++ b) (one-below w g clauses one n (omega (arith, le))) (append-nil (Q (spot w n)) ∙ one n) ∙
       sym (map_more g clauses n no_clause lt) ∙
       ap (λ (m : ℕ). map g (take m clauses)) e
 
@@ -57,7 +53,7 @@ module _ (Q : Spot → List Query) where
       flat_map-append Q (clause_spots clauses) (spot what.Safety 0 ∷ []) ∙
       ap₂ (λ (x y : List Query). x ++ y)
       (flat_map-append Q (spots_below what.Init (length clauses)) (spots_below what.Step (length clauses)) ∙ ap₂ (λ (x y : List Query). x ++ y) a b)
-      (append_nothing (Q (spot what.Safety 0)) ∙ c)
+      (append-nil (Q (spot what.Safety 0)) ∙ c)
 
 module _ (sys : System) where
   safe-queries : (frame : ℕ) (clauses : List Kept) → flat_map (queries_at sys (verdict.Safe frame clauses)) (frame_spots clauses) ≡ judge_queries sys (verdict.Safe frame clauses)
@@ -80,7 +76,7 @@ module _ (sys : System) where
   chain-queries links =
       let Q = queries_at sys (verdict.NoUniversal links) in
       flat_map-append Q (links_below (length links)) (spot what.Safety 0 ∷ spot what.Run 0 ∷ []) ∙
-      ap₂ (λ (x y : List Query). x ++ y) (none-below Q link_spots (link-none links) (length links)) (append_nothing (judge_queries sys (verdict.NoUniversal links)))
+      ap₂ (λ (x y : List Query). x ++ y) (none-below Q link_spots (link-none links) (length links)) (append-nil (judge_queries sys (verdict.NoUniversal links)))
 
   bounded-queries : (last : ℕ) (clauses : List Kept) (leaves : List Leave) → flat_map (queries_at sys (verdict.Bounded last clauses leaves)) (spots_of (verdict.Bounded last clauses leaves)) ≡ judge_queries sys (verdict.Bounded last clauses leaves)
   bounded-queries last clauses leaves =
@@ -92,7 +88,7 @@ module _ (sys : System) where
       (of-clauses Q what.Step (λ (kept : Kept). before_query sys (frame_below clauses kept) kept.cube) clauses (λ k. refl))
       refl)
       (none-below Q (λ k. spot what.Leave (k + 1) ∷ []) (λ k. refl) last) ∙
-      append_nothing (judge_queries sys (verdict.Bounded last clauses leaves))
+      append-nil (judge_queries sys (verdict.Bounded last clauses leaves))
 
   pub queries-of-spots : (told : Verdict) → flat_map (queries_at sys told) (spots_of told) ≡ judge_queries sys told
   queries-of-spots (verdict.Safe frame clauses) = safe-queries frame clauses
@@ -101,4 +97,4 @@ module _ (sys : System) where
   queries-of-spots (verdict.Bounded last clauses leaves) = bounded-queries last clauses leaves
   queries-of-spots (verdict.Spent steps) = refl
   queries-of-spots (verdict.Over kind weight) = refl
-  queries-of-spots (verdict.NoRun k) = append_nothing (run_queries sys (k + 1))
+  queries-of-spots (verdict.NoRun k) = append-nil (run_queries sys (k + 1))

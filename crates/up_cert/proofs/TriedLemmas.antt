@@ -26,12 +26,6 @@ module _ (sig : Sig) (limit : ℕ) where
   comes-first : (q : Query) (qs : List Query) → ComesTo sig limit (q ∷ qs) q
   comes-first q qs = record { before = []; after = qs; parts = refl; none = All-nil (HasNoWorld sig); light = All-nil (IsLight sig limit) }
 
-  -- what is answered of one fact is of one that is the same
-  pub answered-as : {A B : Type 0} (q : Query) → A ↔ B → (a : Answer) → IsAnswered sig limit A q a → IsAnswered sig limit B q a
-  answered-as q same answer.Passes h = (h.0, same.0 h.1)
-  answered-as q same answer.Fails h = (h.0, h.1, λ b. h.2 (same.1 b))
-  answered-as q same (answer.Over weight) h = h
-
   pub tried-one : (A : Type 0) (q : Query) (a : Answer) → IsAnswered sig limit A q a → IsTried sig limit A (q ∷ []) a
   tried-one A q answer.Passes h = record { so = h.1; light = All-cons (IsLight sig limit) q [] h.0 (All-nil (IsLight sig limit)) }
   tried-one A q answer.Fails h = record {
@@ -40,14 +34,21 @@ module _ (sig : Sig) (limit : ℕ) where
   }
   tried-one A q (answer.Over weight) h = record { query = q; reached = comes-first q []; weighs = h.0; above = h.1 }
 
-  -- the same of what a call returns
-  pub answered-ok : {A B : Type 0} (q : Query) → A ↔ B → (r : Result Answer AllocError) → IfOk r (IsAnswered sig limit A q) → IfOk r (IsAnswered sig limit B q)
-  answered-ok q same (Ok a) h = answered-as q same a h
-  answered-ok q same (Err e) h = tt
+  -- what is answered of one fact is of one that is the same
+  module _ (A B : Type 0) (same : A ↔ B) (q : Query) where
+    answered-as : (a : Answer) → IsAnswered sig limit A q a → IsAnswered sig limit B q a
+    answered-as answer.Passes h = (h.0, same.0 h.1)
+    answered-as answer.Fails h = (h.0, h.1, λ b. h.2 (same.1 b))
+    answered-as (answer.Over weight) h = h
 
-  pub tried-ok : {A B : Type 0} (q : Query) → A ↔ B → (r : Result Answer AllocError) → IfOk r (IsAnswered sig limit A q) → IfOk r (IsTried sig limit B (q ∷ []))
-  tried-ok {B = B} q same (Ok a) h = tried-one B q a (answered-as q same a h)
-  tried-ok q same (Err e) h = tt
+    -- the same of what a call returns
+    pub answered-ok : (r : Result Answer AllocError) → IfOk r (IsAnswered sig limit A q) → IfOk r (IsAnswered sig limit B q)
+    answered-ok (Ok a) h = answered-as a h
+    answered-ok (Err e) h = tt
+
+    pub tried-ok : (r : Result Answer AllocError) → IfOk r (IsAnswered sig limit A q) → IfOk r (IsTried sig limit B (q ∷ []))
+    tried-ok (Ok a) h = tried-one B q a (answered-as a h)
+    tried-ok (Err e) h = tt
 
   -- ---- queries one after the other
 
