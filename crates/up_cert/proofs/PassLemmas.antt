@@ -171,7 +171,7 @@ module _ (sys : System) where
   passes-there (verdict.Unsafe w) over h = run-there w over h
   passes-there (verdict.NoUniversal links) over h = chain-there sys links h
   passes-there (verdict.Bounded last clauses leaves) over h = bounded-there last clauses leaves over h
-  passes-there (verdict.Spent steps) over h = tt
+  passes-there (verdict.Spent spent) over h = tt
   passes-there (verdict.Over kind weight) over h = tt
   passes-there (verdict.NoRun k) over h = one-to (Passes sys (verdict.NoRun k)) (spot what.Run 0) h
 
@@ -180,6 +180,6 @@ module _ (sys : System) where
   passes-back (verdict.Unsafe w) h = run-back w h
   passes-back (verdict.NoUniversal links) h = chain-back sys links h
   passes-back (verdict.Bounded last clauses leaves) h = bounded-back last clauses leaves h
-  passes-back (verdict.Spent steps) h = All-nil (Passes sys (verdict.Spent steps))
+  passes-back (verdict.Spent spent) h = All-nil (Passes sys (verdict.Spent spent))
   passes-back (verdict.Over kind weight) h = All-nil (Passes sys (verdict.Over kind weight))
   passes-back (verdict.NoRun k) h = one-from (Passes sys (verdict.NoRun k)) (spot what.Run 0) h

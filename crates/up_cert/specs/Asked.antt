@@ -60,7 +60,7 @@ pub record CanJudgeVerdict (sys : System) (order : Order) (told : Verdict) : Typ
   pub shallow : IsWithinDepth 64 sys
   pub over : IsOver sys.sig told
   pub numbers : HasNumbers told
-  pub order : IsOrdered sys order told
+  pub ordered : IsOrdered sys order told
 
 -- inside the crate
 
