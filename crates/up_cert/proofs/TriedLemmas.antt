@@ -6,12 +6,14 @@ use Rattle.std.proofs.lemmas.Bool.{cases_lt}
 use Rattle.std.proofs.lemmas.List.Elements.{All-nil, All-cons, All-push}
 use Rattle.std.proofs.lemmas.List.FromFn.{map-range_with_len_more}
 use Rattle.fo_core.specs.declared.finder.Found.TheVariants as found
+use Rattle.fo_core.specs.declared.formula.Formula.{Formula}
 use Rattle.fo_core.specs.declared.query.Query.{Query}
 use Rattle.fo_core.specs.declared.signature.Sig.{Sig}
 use Rattle.fo_core.specs.declared.system.System.{System}
 use Rattle.fo_core.specs.Finds.{HasWorld, HasNoWorld, IsLight, IsAnswer}
 use Rattle.fo_core.specs.QueryWeight.{query_weight}
 use Rattle.fo_core.proofs.ListFacts.{all_mapped, all_range}
+use Rattle.up_claims.specs.Claims.{unroll_claims}
 use Rattle.up_claims.specs.RunQueries.{run_query, run_queries, HasNoRunOf}
 use Rattle.up_claims.specs.Verdicts.{HasNoRunWithin}
 use Rattle.up_claims.proofs.UnrollLemmas.{meaning-unroll}
@@ -68,13 +70,24 @@ module _ (sig : Sig) (limit : ℕ) where
   refuted-where [] h = tt
   refuted-where (x ∷ xs) h = h
 
-module _ (sys : System) (limit : ℕ) where
+-- a query with these parts is the query of runs of k steps
+pub is-run-query : (sys : System) (k : ℕ) (q : Query) → q.copies ≡ k + 1 → q.claims ≡ unroll_claims sys k → q ≡ run_query sys k
+is-run-query sys k q c d =
+    let of_copies : ℕ → Query = λ n. record { copies = n; claims = q.claims } in
+    let of_claims : List Formula → Query = λ fs. record { copies = k + 1; claims = fs } in
+    ap of_copies c ∙ ap of_claims d
+
+module _ (sys : System) where
   no-run-query : (k : ℕ) → HasNoRunOf sys k → HasNoWorld sys.sig (run_query sys k)
   no-run-query k none w m = none w ((meaning-unroll sys k (run_query sys k) refl refl w).0 m)
+
+  pub run-by-query : (k : ℕ) → HasNoWorld sys.sig (run_query sys k) ↔ HasNoRunOf sys k
+  run-by-query k = (λ none w run. none w ((meaning-unroll sys k (run_query sys k) refl refl w).1 run), no-run-query k)
 
   queries-more : (k : ℕ) → run_queries sys (k + 1) ≡ run_queries sys k ++ run_query sys k ∷ []
   queries-more k = map-range_with_len_more (run_query sys) 0 k k (zero-add k)
 
+module _ (sys : System) (limit : ℕ) where
   -- so far there is no run, as was found by queries that aren't above the limit
   pub record IsSoFar (k : ℕ) : Type 0 where
     pub shorter : (j : ℕ) → j < k → HasNoRunOf sys j
@@ -86,20 +99,20 @@ module _ (sys : System) (limit : ℕ) where
   pub so-far-more : (k : ℕ) → IsSoFar k → IsAnswered sys.sig limit (HasNoRunOf sys k) (run_query sys k) answer.Passes → IsSoFar (k + 1)
   so-far-more k h a = record {
     shorter = below_more (HasNoRunOf sys) k h.shorter a.1;
-    light = subst (All (IsLight sys.sig limit)) (sym (queries-more k)) (All-push (IsLight sys.sig limit) (run_queries sys k) (run_query sys k) h.light a.0);
+    light = subst (All (IsLight sys.sig limit)) (sym (queries-more sys k)) (All-push (IsLight sys.sig limit) (run_queries sys k) (run_query sys k) h.light a.0);
   }
 
   none-before : (k : ℕ) → IsSoFar k → All (HasNoWorld sys.sig) (run_queries sys k)
   none-before k h =
       all_mapped (HasNoWorld sys.sig) (run_query sys) (range_with_len 0 k)
-      (all_range (λ j. HasNoWorld sys.sig (run_query sys j)) k (λ j lt. no-run-query j (h.shorter j lt)))
+      (all_range (λ j. HasNoWorld sys.sig (run_query sys j)) k (λ j lt. no-run-query sys j (h.shorter j lt)))
 
   comes-to-run : (n k : ℕ) → k < n → IsSoFar k → ComesTo sys.sig limit (run_queries sys n) (run_query sys k)
   comes-to-run zero k lt h = absurd (omega (arith, lt))
   comes-to-run (suc n) k lt h =
       let one : n + 1 ≡ suc n = omega arith in
       subst (λ (m : ℕ). ComesTo sys.sig limit (run_queries sys m) (run_query sys k)) one
-      (subst (λ (qs : List Query). ComesTo sys.sig limit qs (run_query sys k)) (sym (queries-more n)) (by_case (λ less. comes-to-run n k less h) (cases_lt k n)))
+      (subst (λ (qs : List Query). ComesTo sys.sig limit qs (run_query sys k)) (sym (queries-more sys n)) (by_case (λ less. comes-to-run n k less h) (cases_lt k n)))
     where
       by_case : (k < n → ComesTo sys.sig limit (run_queries sys n) (run_query sys k)) → (k < n) ⊎ (n ≤ k) → ComesTo sys.sig limit (run_queries sys n ++ run_query sys n ∷ []) (run_query sys k)
       by_case more (inl less) = comes-left sys.sig limit (run_queries sys n) (run_query sys n ∷ []) (run_query sys k) (more less)
