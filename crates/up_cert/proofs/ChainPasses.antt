@@ -71,7 +71,7 @@ module _ (sys : System) where
   goes-there before (link ∷ links) each bad = (
     each 0 (omega arith),
     goes-there link.state links
-    (λ k lt. subst (λ (w : World). IsNextLink sys w (link_at links k)) (sym (before-is link links k)) (each (suc k) (omega (arith, lt)))) bad,
+        (λ k lt. subst (λ (w : World). IsNextLink sys w (link_at links k)) (sym (before-is link links k)) (each (suc k) (omega (arith, lt)))) bad,
   )
 
   goes-each : (before : World) (links : List Link) → GoesOn sys before links → (k : ℕ) → k < length links → IsNextLink sys (state_before before links k) (link_at links k)

@@ -1,5 +1,7 @@
 pub mod ChainPasses
 pub mod FoundLemmas
+pub mod FrameLemmas
+pub mod HaltLemmas
 pub mod Judgements
 pub mod LookLemmas
 pub mod Numbered
@@ -8,3 +10,4 @@ pub mod QueryLemmas
 pub mod SpotLemmas
 pub mod TriedLemmas
 pub mod VerdictsFound
+pub mod WorldLemmas

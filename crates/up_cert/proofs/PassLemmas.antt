@@ -143,8 +143,8 @@ module _ (sys : System) where
     left-to h =
         each-to B (λ j. spot what.Leave (j + 1) ∷ []) last
         (λ k lt.
-            let within : k < length leaves = omega (arith, lt, h.one_each) in
-            one-from B (spot what.Leave (k + 1)) (subst (IsLeave sys clauses (k + 1)) (sym (leaf k)) (h.each k (leave_at leaves k) (slice_get-get_or leaves k no_leave within))))
+        let within : k < length leaves = omega (arith, lt, h.one_each) in
+        one-from B (spot what.Leave (k + 1)) (subst (IsLeave sys clauses (k + 1)) (sym (leaf k)) (h.each k (leave_at leaves k) (slice_get-get_or leaves k no_leave within))))
 
     bounded-there : IsOver sys.sig (verdict.Bounded last clauses leaves) → All B (spots_of (verdict.Bounded last clauses leaves)) → IsBounded sys last clauses leaves
     bounded-there over h =

@@ -1,14 +1,14 @@
 //! What the worlds of a chain's links show.
 
-ghost use Rattle.std.specs.Prelude.{◌≡◌, ◌↔◌, ◌-◌, ◌<◌, ◌^◌, length, IsTrue, IfOk};
+ghost use Rattle.std.specs.Prelude.{◌≡◌, ◌↔◌, ◌<◌, ◌^◌, length, IsTrue, IfOk};
 ghost use Rattle.std.specs.List.{All};
-ghost use Rattle.fo_core.specs.RunLaws.{IsLoneInitial};
+ghost use Rattle.fo_core.specs.RunLaws.{IsLoneState, IsLoneInitial};
 ghost use Rattle.fo_core.specs.Sorted.{IsSig};
 ghost use Rattle.fo_core.specs.Tables.{IsReadable};
 ghost use Rattle.up_claims.specs.declared.verdict.Verdict.TheVariants.{NoUniversal};
 ghost use Rattle.up_cert.specs.Asked.{HasLinkWorlds, CanLook};
 ghost use Rattle.up_cert.specs.Trying.{Looks};
-ghost use Rattle.up_cert.specs.VerdictSpots.{ChainPasses, HasState, ComesFrom, Embeds, EndsBadly, last_copy as last_copy_of, origin_what as origin_what_of, link_spots, links_below};
+ghost use Rattle.up_cert.specs.VerdictSpots.{ChainPasses, HasState, ComesFrom, Embeds, EndsBadly, last_copy as last_copy_of, origin_what as origin_what_of, link_spots, links_below, link_at};
 
 use crate::spot::{Spot, What};
 use fo_core::{System, World};
@@ -16,6 +16,14 @@ use fo_embed::is_embedding;
 use fo_eval::{Env, is_initial, is_state, is_step, violates};
 use std::alloc::{AllocError, Global};
 use up_claims::Link;
+
+/// The link of this number.
+fn link_of(links: &[Link], k: usize) -> &Link
+    requires { k < length links.now }
+    ensures { result.now ≡ link_at links.now k }
+{
+    &links[k]
+}
 
 /// The number of the last copy.
 fn last_copy(w: &World) -> u32
@@ -25,6 +33,19 @@ fn last_copy(w: &World) -> u32
     (w.copies.len() as u32).saturating_sub(1)
 }
 
+/// Whether the world is one state.
+fn is_lone_state(sys: &System, w: &World, env: &mut Env) -> bool
+    requires look { CanLook sys.now env.old }
+    requires world { IsReadable sys.now.sig w.now }
+    ensures shown { IsTrue result ↔ IsLoneState sys.now w.now }
+    ensures same { env.new ≡ env.old }
+{
+    if w.copies.len() != 1 {
+        return false;
+    }
+    is_state(sys, w, 0, env)
+}
+
 /// Whether the link's state is one, and the last copy of its origin.
 fn has_state(sys: &System, link: &Link, env: &mut Env) -> bool
     requires look { CanLook sys.now env.old }
@@ -32,9 +53,10 @@ fn has_state(sys: &System, link: &Link, env: &mut Env) -> bool
     ensures shown { IsTrue result ↔ HasState sys.now link.now }
     ensures same { env.new ≡ env.old }
 {
-    link.state.copies.len() == 1
-        && is_state(sys, &link.state, 0, env)
-        && is_state(sys, &link.origin, last_copy(&link.origin), env)
+    if !is_lone_state(sys, &link.state, env) {
+        return false;
+    }
+    is_state(sys, &link.origin, last_copy(&link.origin), env)
 }
 
 /// Whether the world is one initial state.
@@ -44,7 +66,10 @@ fn is_start(sys: &System, w: &World, env: &mut Env) -> bool
     ensures shown { IsTrue result ↔ IsLoneInitial sys.now w.now }
     ensures same { env.new ≡ env.old }
 {
-    w.copies.len() == 1 && is_initial(sys, w, 0, env)
+    if w.copies.len() != 1 {
+        return false;
+    }
+    is_initial(sys, w, 0, env)
 }
 
 /// Whether the link's origin is a step from this state.
@@ -94,10 +119,12 @@ fn has_origin(
     ensures same { env.new ≡ env.old }
 {
     let at = k as usize;
+    let link = link_of(links, at);
     if at == 0 {
-        return Ok(is_start(sys, &links[0].origin, env));
+        return Ok(is_start(sys, &link.origin, env));
     }
-    comes_from(alloc, sys, &links[at - 1].state, &links[at], env)
+    let before = link_of(links, at - 1);
+    comes_from(alloc, sys, &before.state, link, env)
 }
 
 /// How the origin of the link of this number should come about.
@@ -121,7 +148,7 @@ fn wrong_link(
     ensures looks { IfOk result (Looks sys.now (NoUniversal links.now) (link_spots k)) }
     ensures same { env.new ≡ env.old }
 {
-    let link = &links[k as usize];
+    let link = link_of(links, k as usize);
     if !has_state(sys, link, env) {
         return Ok(Some(Spot {
             what: What::State,
@@ -171,8 +198,9 @@ pub fn ends_badly(sys: &System, links: &[Link], env: &mut Env) -> bool
     ensures shown { IsTrue result ↔ EndsBadly sys.now links.now }
     ensures same { env.new ≡ env.old }
 {
-    let Some(last) = links.last() else {
+    if links.is_empty() {
         return false;
-    };
+    }
+    let last = link_of(links, links.len() - 1);
     violates(sys, &last.state, 0, env).is_some()
 }

@@ -14,7 +14,7 @@ ghost use Rattle.up_cert.specs.VerdictSpots.{frame_spots, spots_of};
 use crate::answer::{Answer, Halt};
 use crate::asking::{try_runs, try_seed};
 use crate::chain::{ends_badly, first_wrong_link};
-use crate::clauses::{Frame, cubes_of, first_initial, first_step, first_step_below, frame_of};
+use crate::clauses::{cubes_of, first_initial, first_step, first_step_below, try_frame};
 use crate::judged::Judged;
 use crate::leaving::first_unleft;
 use crate::run::judge_run;
@@ -147,12 +147,10 @@ fn judge_frames<F: Finder>(
     if let Some(halt) = first_initial(alloc, f, sys, order, clauses)? {
         return Ok(halted(halt, What::Init));
     }
-    let frame = frame_of(alloc, clauses, last)?;
-    let mut below = Frame::new(alloc, clauses, last)?;
-    if let Some(halt) = first_step_below(alloc, f, sys, order, clauses, &mut below)? {
+    if let Some(halt) = first_step_below(alloc, f, sys, order, clauses)? {
         return Ok(halted(halt, What::Step));
     }
-    let seed = try_seed(alloc, f, sys, order, frame.as_slice())?;
+    let seed = try_frame(alloc, f, sys, order, clauses, last)?;
     Ok(answered(seed, What::Safety))
 }
 

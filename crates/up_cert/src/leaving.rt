@@ -14,7 +14,7 @@ ghost use Rattle.up_diagram.specs.Trying.{CanMeet};
 ghost use Rattle.up_cert.specs.Asked.{CanLook};
 ghost use Rattle.up_cert.specs.Clauses.{AreClauses};
 ghost use Rattle.up_cert.specs.Trying.{Looks};
-ghost use Rattle.up_cert.specs.VerdictSpots.{leaves_to};
+ghost use Rattle.up_cert.specs.VerdictSpots.{leave_at, leaves_to};
 
 use crate::spot::{Spot, What};
 use fo_core::{Sig, System, World};
@@ -121,6 +121,14 @@ fn is_leave(
     is_step_into(alloc, sys, &leave.step, clauses, level, &kept.cube, env)
 }
 
+/// The leave of this number.
+fn leave_of(leaves: &[Leave], k: u32) -> &Leave
+    requires { k < length leaves.now }
+    ensures { result.now ≡ leave_at leaves.now k }
+{
+    &leaves[k as usize]
+}
+
 /// Looks at the steps: the first frame that isn't left by its step.
 pub fn first_unleft(
     alloc: Global,
@@ -138,7 +146,7 @@ pub fn first_unleft(
     ensures same { env.new ≡ env.old }
 {
     'each: for k in 0..last {
-        let leave = &leaves[k as usize];
+        let leave = leave_of(leaves, k);
         if !is_leave(alloc, sys, clauses, k + 1, leave, env)? {
             return Ok(Some(Spot {
                 what: What::Leave,

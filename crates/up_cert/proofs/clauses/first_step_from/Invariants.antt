@@ -5,7 +5,7 @@ use Rattle.up_claims.specs.Verdicts.{frame_below}
 use Rattle.up_cert.specs.Clauses.{IsFrameAt}
 use Rattle.up_cert.specs.Trying.{AreCleared}
 use Rattle.up_cert.specs.VerdictSpots.{clause_at}
-use Rattle.up_cert.proofs.clauses.first_step_below.Given as goal
+use Rattle.up_cert.proofs.clauses.first_step_from.Given as goal
 
 -- no step leads into the cubes of the clauses before this one from the frames below them
 abbrev pub invariant-each : goal.invariant-each
