@@ -3,6 +3,7 @@ pub mod FoundLemmas
 pub mod FrameLemmas
 pub mod HaltLemmas
 pub mod Judgements
+pub mod LinkLemmas
 pub mod LookLemmas
 pub mod Numbered
 pub mod PassLemmas

@@ -127,7 +127,7 @@ module _ (sys : System) where
     S kept = NoStep sys (frame_below clauses kept) kept.cube
 
     -- number k + 1 less 1
-    leaf : (k : ℕ) → leave_at leaves (k + 1 - 1) ≡ leave_at leaves k
+    pub leaf : (k : ℕ) → leave_at leaves (k + 1 - 1) ≡ leave_at leaves k
     leaf k = let e : k + 1 - 1 ≡ k = omega arith in ap (leave_at leaves) e
 
     left-from : length leaves ≡ last → All B (leaves_to last) → AreLeaves sys last clauses leaves
