@@ -1,7 +1,8 @@
 -- What is told by looking at the worlds of links and leaves.
-use Rattle.std.proofs.Common.{◌≡◌, ◌↔◌, ℕ, zero, suc, Bool, true, false, true≢false, ◌+◌, ◌-◌, ◌<◌, ◌≤◌, List, [], Option, None, Some, length, refl, sym, ap, subst, ◌∙◌, arith}
+use Rattle.std.proofs.Common.{◌≡◌, ◌↔◌, ℕ, zero, suc, Bool, true, false, true≢false, ◌+◌, ◌-◌, ◌<◌, ◌≤◌, List, [], ◌∷◌, ◌==◌, Option, None, Some, Result, Ok, Err, IfOk, length, refl, sym, ap, subst, ◌∙◌, arith}
 use Rattle.std.specs.Prelude.{IsTrue, MatchOption, is_some, slice_get}
 use Rattle.std.specs.List.{All}
+use Rattle.std.specs.declared.alloc.AllocError.{AllocError}
 use Rattle.std.proofs.lemmas.Option.{get_or_from_slice_get}
 use Rattle.fo_core.specs.declared.system.System.{System}
 use Rattle.fo_core.specs.declared.world.World.{World}
@@ -59,6 +60,11 @@ module _ (sys : System) where
   comes-from before link b is two step h =
       answered (λ s. record { step = record { fits = is.fits; two_copies = two; step = step }; same = s }) (λ l. l.same) h
 
+  -- where some link is there, and its list isn't empty
+  pub some-links : (links : List Link) → (length links == 0) ≡ false → 0 < length links
+  some-links [] e = absurd (true≢false e)
+  some-links (link ∷ links) e = omega arith
+
   pub ends-badly : (links : List Link) (r : Option ℕ) → 0 < length links →
       MatchOption r (All (λ f. Truth sys.sig (link_at links (length links - 1)).state 0 f []) sys.safeties) (IsFirstFalse sys.sig (link_at links (length links - 1)).state 0 sys.safeties) →
       IsTrue (is_some r) ↔ EndsBadly sys links
@@ -79,14 +85,12 @@ module _ (sys : System) where
   step-into cubes cube w b is two step outside h =
       answered (λ m. record { fits = is.fits; copies = two; in_frame = (step.state, outside); step = step; meets = m }) (λ s. s.meets) h
 
-  module _ (clauses : List Kept) (level : ℕ) (leave : Leave) where
-    -- the clause that a leave names is the one
-    pub leave-level : (kept : Kept) → slice_get clauses leave.clause ≡ Some kept → IsLeave sys clauses level leave → kept.level ≡ level
-    leave-level kept at h =
-        let same : h.kept ≡ kept = sym (get_or_from_slice_get clauses leave.clause h.kept kept h.clause) ∙ get_or_from_slice_get clauses leave.clause kept kept at in
-        ap (λ (k : Kept). k.level) (sym same) ∙ h.exact
+  pub step-into-ok : (cubes : List Cube) (cube : Cube) (w : World) (r : Result Bool AllocError) → IsReadable sys.sig w → length w.copies ≡ 2 → IsStep sys w 0 → Avoids sys.sig w 0 cubes → IfOk r (λ b. IsTrue b ↔ Meets sys.sig w 1 cube) → IfOk r (λ b. IsTrue b ↔ IsStepInto sys (Some cubes) cube w)
+  step-into-ok cubes cube w (Ok b) is two step outside h = step-into cubes cube w b is two step outside h
+  step-into-ok cubes cube w (Err e) is two step outside h = tt
 
-    pub leave-told : (kept : Kept) (b : Bool) → 1 ≤ level → leave.level ≡ level → slice_get clauses leave.clause ≡ Some kept → kept.level ≡ level → (IsTrue b ↔ IsStepInto sys (Some (cubes_from clauses level)) kept.cube leave.step) → IsTrue b ↔ IsLeave sys clauses level leave
+  module _ (clauses : List Kept) (level : ℕ) (leave : Leave) where
+    leave-told : (kept : Kept) (b : Bool) → 1 ≤ level → leave.level ≡ level → slice_get clauses leave.clause ≡ Some kept → kept.level ≡ level → (IsTrue b ↔ IsStepInto sys (Some (cubes_from clauses level)) kept.cube leave.step) → IsTrue b ↔ IsLeave sys clauses level leave
     leave-told kept b some is at exact h = answered there back h
       where
         framed : (i : ℕ) → 1 ≤ i → printed_frame clauses i ≡ Some (cubes_from clauses i)
@@ -107,3 +111,7 @@ module _ (sys : System) where
             let same : l.kept ≡ kept = sym (get_or_from_slice_get clauses leave.clause l.kept kept l.clause) ∙ get_or_from_slice_get clauses leave.clause kept kept at in
             subst (λ (k : Kept). IsStepInto sys (Some (cubes_from clauses level)) k.cube leave.step) same
             (subst (λ (frame : Option (List Cube)). IsStepInto sys frame l.kept.cube leave.step) (framed level some) l.step)
+
+    pub leave-told-ok : (kept : Kept) (r : Result Bool AllocError) → 1 ≤ level → leave.level ≡ level → slice_get clauses leave.clause ≡ Some kept → kept.level ≡ level → IfOk r (λ b. IsTrue b ↔ IsStepInto sys (Some (cubes_from clauses level)) kept.cube leave.step) → IfOk r (λ b. IsTrue b ↔ IsLeave sys clauses level leave)
+    leave-told-ok kept (Ok b) some is at exact h = leave-told kept b some is at exact h
+    leave-told-ok kept (Err e) some is at exact h = tt

@@ -43,7 +43,7 @@ fn frame_of(alloc: Global, clauses: &[Kept], level: u32) -> Result<Seq<Cube>, Al
 }
 
 /// The clause of this number.
-fn clause_of(clauses: &[Kept], k: u32) -> &Kept
+pub fn clause_of(clauses: &[Kept], k: u32) -> &Kept
     requires { k < length clauses.now }
     ensures { result.now ≡ clause_at clauses.now k }
 {

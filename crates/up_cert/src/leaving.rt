@@ -12,10 +12,11 @@ ghost use Rattle.up_claims.specs.Verdicts.{cubes_from, IsLeave};
 ghost use Rattle.up_diagram.specs.Cubes.{IsCube, Meets};
 ghost use Rattle.up_diagram.specs.Trying.{CanMeet};
 ghost use Rattle.up_cert.specs.Asked.{CanLook};
-ghost use Rattle.up_cert.specs.Clauses.{AreClauses};
+ghost use Rattle.up_cert.specs.Clauses.{AreClauses, IsExcluded};
 ghost use Rattle.up_cert.specs.Trying.{Looks};
 ghost use Rattle.up_cert.specs.VerdictSpots.{leave_at, leaves_to};
 
+use crate::clauses::clause_of;
 use crate::spot::{Spot, What};
 use fo_core::{Sig, System, World};
 use fo_eval::{Env, is_step};
@@ -41,6 +42,25 @@ fn meets_cube(
     Ok(meets(sig, w, copy, cube, &mut picks))
 }
 
+/// Whether the clause is of at least this level, and copy 0 meets its cube.
+fn is_excluded(
+    alloc: Global,
+    sys: &System,
+    w: &World,
+    kept: &Kept,
+    level: u32,
+) -> Result<bool, AllocError>
+    requires sig { IsSig sys.now.sig }
+    requires world { IsReadable sys.now.sig w.now }
+    requires cube { IsCube sys.now.sig kept.now.cube }
+    ensures { IfOk result (λ b. IsTrue b ↔ IsExcluded sys.now w.now level kept.now) }
+{
+    if kept.level < level {
+        return Ok(false);
+    }
+    meets_cube(alloc, &sys.sig, w, 0, &kept.cube)
+}
+
 /// Whether copy 0 meets no cube of a clause of at least this level.
 fn is_outside(
     alloc: Global,
@@ -54,8 +74,9 @@ fn is_outside(
     requires clauses { AreClauses sys.now.sig clauses.now }
     ensures { IfOk result (λ b. IsTrue b ↔ Avoids sys.now.sig w.now 0 (cubes_from clauses.now level)) }
 {
-    'each: for kept in clauses {
-        if kept.level >= level && meets_cube(alloc, &sys.sig, w, 0, &kept.cube)? {
+    'each: for k in 0..clauses.len() as u32 {
+        let kept = clause_of(clauses, k);
+        if is_excluded(alloc, sys, w, kept, level)? {
             return Ok(false);
         }
     }

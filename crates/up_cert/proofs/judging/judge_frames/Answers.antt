@@ -10,7 +10,7 @@ returns-in-Some-clause-found g c = λ leaves.
 
 pub returns-in-Some-2-clause-found : goal.returns-in-Some-2-clause-found
 returns-in-Some-2-clause-found g c = λ leaves.
-    rw c.halted-2.ensures
+    rw c.halted-in-Some-2.ensures
     (frame-step c.args.sys.now (g.F.Finder.limit c.args.f.now) (verdict.Bounded c.args.last c.args.clauses.now leaves) c.args.clauses.now c.in-Some-2.halt
     (rw c.in_default.is at c.in_ok-halt.ensures.halts) (rw (c.in_ok-halt.ensures.limit, c.in-Some-2.is) at c.in_ok-halt-2.ensures.halts))
 

@@ -1,8 +1,8 @@
-use Rattle.std.proofs.Common.{◌≡◌, take}
-use Rattle.up_claims.specs.Frames.{Avoids}
-use Rattle.up_claims.specs.Verdicts.{cubes_from}
+use Rattle.std.proofs.Common.{◌≡◌, ◌<◌, ℕ}
+use Rattle.up_cert.specs.Clauses.{IsExcluded}
+use Rattle.up_cert.specs.VerdictSpots.{clause_at}
 use Rattle.up_cert.proofs.leaving.is_outside.Given as goal
 
--- copy 0 meets no cube of the clauses so far
+-- no clause before this one excludes copy 0
 abbrev pub invariant-each : goal.invariant-each
-invariant-each l = Avoids l.sys.sig l.w 0 (cubes_from (take l.kept-index l.clauses) l.level)
+invariant-each l = (j : ℕ) → j < l.k → ¬ IsExcluded l.sys l.w l.level (clause_at l.clauses j)
