@@ -55,8 +55,8 @@ module _ (sys : System) (w : World) (level : ℕ) (clauses : List Kept) where
   outside h =
       all_mapped (λ cube. ¬ Meets sys.sig w 0 cube) (λ (kept : Kept). kept.cube) (filter passes clauses)
       (λ k d lt meets.
-          All-filter passes (λ (kept : Kept). ¬ IsExcluded sys w level kept) clauses (All-from_get_or (λ (kept : Kept). ¬ IsExcluded sys w level kept) clauses no_clause h) k d lt
-          (record { high = leb-true level _ (filter_passes passes clauses k d lt); meets = meets }))
+      All-filter passes (λ (kept : Kept). ¬ IsExcluded sys w level kept) clauses (All-from_get_or (λ (kept : Kept). ¬ IsExcluded sys w level kept) clauses no_clause h) k d lt
+      (record { high = leb-true level _ (filter_passes passes clauses k d lt); meets = meets }))
 
   pub not-outside : (k : ℕ) → k < length clauses → IsExcluded sys w level (clause_at clauses k) → ¬ Avoids sys.sig w 0 (cubes_from clauses level)
   not-outside k lt excluded avoids =

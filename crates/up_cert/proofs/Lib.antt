@@ -1,3 +1,4 @@
+pub mod AskedLemmas
 pub mod ChainPasses
 pub mod FoundLemmas
 pub mod FrameLemmas
