@@ -1,7 +1,7 @@
 -- What an answer of judging says of the verdict, and that there is one answer.
-use Rattle.std.proofs.Common.{◌≡◌, ℕ, zero, suc, ◌+◌, ◌<◌, ◌≤◌, List, [], ◌∷◌, ◌++◌, refl, sym, ap, subst, ◌∙◌, arith}
+use Rattle.std.proofs.Common.{◌≡◌, ℕ, List, [], ◌∷◌, ◌++◌, refl, sym, ap, subst, ◌∙◌, arith}
 use Rattle.std.specs.List.{All}
-use Rattle.std.proofs.lemmas.List.Elements.{All-head, All-tail, All-weaker}
+use Rattle.std.proofs.lemmas.List.Elements.{All-head, All-tail}
 use Rattle.fo_core.specs.declared.formula.Formula.{Formula}
 use Rattle.fo_core.specs.declared.query.Query.{Query}
 use Rattle.fo_core.specs.declared.signature.Sig.{Sig}
@@ -18,7 +18,7 @@ use Rattle.up_cert.specs.declared.judged.Judged.{Judged}
 use Rattle.up_cert.specs.declared.judged.Judged.TheVariants as judged
 use Rattle.up_cert.specs.declared.spot.Spot.{Spot}
 use Rattle.up_cert.specs.Asked.{IsOver}
-use Rattle.up_cert.specs.Judging.{ComesTo, FindsWorld, FindsHeavy, IsRefuted, IsDenied, Clears, IsSpotReached, FailsFirst, IsOverFirst, IsFound, IsJudged}
+use Rattle.up_cert.specs.Judging.{ComesTo, FindsWorld, FindsHeavy, IsRefuted, Clears, IsSpotReached, FailsFirst, IsOverFirst, IsFound, IsJudged}
 use Rattle.up_cert.specs.VerdictSpots.{Passes, queries_at, spots_of}
 use Rattle.up_cert.proofs.ChainPasses.{chain-there}
 use Rattle.up_cert.proofs.PassLemmas.{passes-there, passes-back}

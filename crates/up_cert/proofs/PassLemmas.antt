@@ -1,28 +1,24 @@
 -- All spots of a verdict pass exactly where it holds.
-use Rattle.std.proofs.Common.{◌≡◌, ◌↔◌, ℕ, zero, suc, ◌+◌, ◌-◌, ◌<◌, ◌≤◌, ◌⊎◌, inl, inr, List, [], ◌∷◌, ◌++◌, Some, length, get_or, refl, sym, ap, subst, ◌∙◌, arith}
-use Rattle.std.specs.Prelude.{slice_get}
+use Rattle.std.proofs.Common.{◌≡◌, ℕ, ◌+◌, ◌-◌, ◌<◌, List, [], ◌∷◌, ◌++◌, Some, length, sym, ap, subst, ◌∙◌, arith}
 use Rattle.std.specs.List.{All}
-use Rattle.std.proofs.lemmas.Bool.{cases_lt}
-use Rattle.std.proofs.lemmas.List.Elements.{All-nil, All-cons, All-head, All-tail, All-append, All-from_get_or}
+use Rattle.std.proofs.lemmas.List.Elements.{All-nil, All-append, All-from_get_or}
 use Rattle.std.proofs.lemmas.Option.{slice_get_within, slice_get-get_or, get_or_from_slice_get}
 use Rattle.fo_core.specs.declared.system.System.{System}
 use Rattle.fo_core.specs.declared.world.World.{World}
-use Rattle.fo_core.specs.Runs.{IsState, IsViolatingRun}
+use Rattle.fo_core.specs.Runs.{IsViolatingRun}
 use Rattle.fo_core.proofs.ListFacts.{all_left, all_right, all_map, all_mapped}
 use Rattle.up_diagram.specs.declared.cube.Cube.{Cube}
 use Rattle.up_claims.specs.declared.verdict.Kept.{Kept}
 use Rattle.up_claims.specs.declared.verdict.Leave.{Leave}
-use Rattle.up_claims.specs.declared.verdict.Link.{Link}
 use Rattle.up_claims.specs.declared.verdict.Verdict.{Verdict}
 use Rattle.up_claims.specs.declared.verdict.Verdict.TheVariants as verdict
-use Rattle.up_claims.specs.Blocked.{NoInitial, NoStep, NoSeed}
+use Rattle.up_claims.specs.Blocked.{NoInitial, NoStep}
 use Rattle.up_claims.specs.Verdicts.{cubes_of, frame_below, AreLeaves, IsLeave, IsBounded, Holds}
 use Rattle.up_claims.proofs.CubeInvariantLemmas.{invariant-there, invariant-back}
 use Rattle.up_cert.specs.declared.spot.Spot.{Spot}
-use Rattle.up_cert.specs.declared.spot.What.{What}
 use Rattle.up_cert.specs.declared.spot.What.TheVariants as what
 use Rattle.up_cert.specs.Asked.{IsOver}
-use Rattle.up_cert.specs.VerdictSpots.{Passes, spots_of, spot, each_below, spots_below, leaves_to, clause_spots, frame_spots, clause_at, no_clause, leave_at, no_leave, last_copy}
+use Rattle.up_cert.specs.VerdictSpots.{Passes, spots_of, spot, spots_below, leaves_to, clause_spots, frame_spots, clause_at, no_clause, leave_at, no_leave, last_copy}
 use Rattle.up_cert.proofs.ChainPasses.{chain-there, chain-back}
 use Rattle.up_cert.proofs.Numbered.{each-from, each-to, one-from, one-to}
 use Rattle.up_cert.proofs.SpotLemmas.{run-states}

@@ -1,5 +1,5 @@
 -- What the judging of a verdict asks for.
-use Rattle.std.specs.Prelude.{◌≡◌, ℕ, ◌-◌, ◌<◌, ◌^◌, [], length, ⊤}
+use Rattle.std.specs.Prelude.{◌≡◌, ◌-◌, ◌<◌, ◌^◌, [], length, ⊤}
 use Rattle.std.specs.List.{All}
 use Rattle.fo_core.specs.declared.order.Order.{Order}
 use Rattle.fo_core.specs.declared.order.Purpose.TheVariants.{Infer}
