@@ -1,5 +1,5 @@
--- What the search of a job asks of its brief, and what it answers, said of what the worker was given
--- and in the words of legality.
+-- What the search of a job asks of its brief, and what it answers, said of what the worker was
+-- given and in the words of legality.
 use Rattle.std.specs.Prelude.{◌≡◌, ℕ, ◌-◌, ◌<◌, ◌≤◌, ◌^◌, List, Option, None, Some, ⊤}
 use Rattle.std.specs.List.{All, sum}
 use Rattle.fo_core.specs.declared.order.Order.{Order}
@@ -105,8 +105,8 @@ IsFound sys (Trace k steps) (S.Trace (U.Run run)) = (n : ℕ) × IsLeastRun sys 
 IsFound sys (Trace k steps) (S.Trace U.NoRun) = (n : ℕ) → n ≤ steps → HasNoRunOf sys n
 IsFound sys given solved = ⊥
 
--- The answer to what was given: the first of the job's queries that is above the limit, with what it
--- is asked for; or what was found, where there is no such query.
+-- The answer to what was given: the first of the job's queries that is above the limit, with what
+-- it is asked for; or what was found, where there is no such query.
 abbrev pub IsAnswer : System → ℕ → Given → Solved → Type 0
 IsAnswer sys limit (Look level frame avoid done) (S.Look (L.Over x)) =
     IsOver sys limit (Look level frame avoid done) K.Seed x
