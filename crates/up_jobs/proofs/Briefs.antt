@@ -1,5 +1,5 @@
 -- What the calls of a search answer, said of the brief that they are made with.
-use Rattle.std.proofs.Common.{◌≡◌, ℕ, ◌-◌, List, Option, None, Some, refl, sym, ap, subst, ◌∙◌}
+use Rattle.std.proofs.Common.{◌≡◌, ℕ, ◌-◌, List, Option, None, Some, sym, ap, subst, ◌∙◌}
 use Rattle.std.specs.List.{All}
 use Rattle.fo_core.specs.declared.order.Order.{Order}
 use Rattle.fo_core.specs.declared.signature.Sig.{Sig}
@@ -9,7 +9,7 @@ use Rattle.fo_min.specs.declared.found.Least.{Least}
 use Rattle.fo_min.specs.Found.{IsFoundLeast}
 use Rattle.up_diagram.specs.declared.cube.Cube.{Cube}
 use Rattle.up_diagram.specs.Cubes.{IsCube}
-use Rattle.up_diagram.specs.Diagrams.{CanDescribe, diagram}
+use Rattle.up_diagram.specs.Diagrams.{diagram}
 use Rattle.up_claims.specs.Frames.{IsFrame, frame_at}
 use Rattle.up_claims.specs.InferQueries.{seed_query}
 use Rattle.up_block.specs.declared.blocking.Blocking.{Blocking}
@@ -19,31 +19,13 @@ use Rattle.up_push.specs.Pushing.{IsPushing}
 use Rattle.up_unroll.specs.declared.unrolling.Unrolled.{Unrolled}
 use Rattle.up_unroll.specs.Unrolling.{IsUnrolled}
 use Rattle.up_machine.specs.declared.brief.Brief.{Brief}
-use Rattle.up_machine.specs.declared.job.Job.{Job}
 use Rattle.up_machine.specs.declared.job.Job.TheVariants as J
 use Rattle.up_machine.specs.Briefs.{cubes_in, brief_of}
 use Rattle.up_machine.specs.Due.{job_of}
 use Rattle.up_machine.specs.Machine.{Given, Work, Look, Push, Trace}
 use Rattle.up_jobs.specs.declared.solved.Solved.TheVariants as S
-use Rattle.up_jobs.specs.Solving.{HasState, HasCube, HasParts, CanSolve, IsBriefOf, IsAnswer, IsSolved}
+use Rattle.up_jobs.specs.Solving.{CanSolve, IsBriefOf, IsAnswer, IsSolved}
 use Rattle.up_jobs.proofs.Searches.{looked, worked, pushed, traced}
-
--- what a brief has by its job
-
-pub has-parts : (sig : Sig) (brief : Brief) (job : Job) → brief.job ≡ job → HasParts sig brief.job brief → HasParts sig job brief
-has-parts sig brief job same h = subst (λ (j : Job). HasParts sig j brief) same h
-
-pub state-of : (sig : Sig) (found : Option World) (world : World) → found ≡ Some world → HasState sig found → CanDescribe sig world 0
-state-of sig found world same h = subst (HasState sig) same h
-
-pub no-state : (sig : Sig) (found : Option World) → found ≡ None → HasState sig found → ⊥
-no-state sig found same h = subst (HasState sig) same h
-
-pub cube-of : (sig : Sig) (found : Option Cube) (cube : Cube) → found ≡ Some cube → HasCube sig found → IsCube sig cube
-cube-of sig found cube same h = subst (HasCube sig) same h
-
-pub no-cube : (sig : Sig) (found : Option Cube) → found ≡ None → HasCube sig found → ⊥
-no-cube sig found same h = subst (HasCube sig) same h
 
 -- a frame whose cubes are well-sorted
 framed : (sig : Sig) (below : Option (List Cube)) → All (IsCube sig) (cubes_in below) → IsFrame sig below
@@ -74,8 +56,12 @@ module _ (sys : System) (order : Order) (limit : ℕ) where
     look_at (Push k level frame cube) b job least found = let no : ⊥ = cc in absurd no
     look_at (Trace k steps) b job least found = let no : ⊥ = cc in absurd no
 
-    pub solved-look : brief.job ≡ J.Look → (least : Least) → Looks least brief → IsSolved sys limit brief (S.Look least)
-    solved-look job least found given b = look_at given b (sym (job-is given brief b) ∙ job) least found
+    pub solved-look : brief.job ≡ J.Look → (frame avoid : List Cube) → frame ≡ brief.frame → avoid ≡ brief.avoid → (least : Least) →
+        IsFoundLeast sys.sig (seed_query sys frame avoid) limit least → IsSolved sys limit brief (S.Look least)
+    solved-look job frame avoid framed_by avoided_by least found given b =
+        look_at given b (sym (job-is given brief b) ∙ job) least
+        (subst (λ (cubes : List Cube). IsFoundLeast sys.sig (seed_query sys brief.frame cubes) limit least) avoided_by
+        (subst (λ (cubes : List Cube). IsFoundLeast sys.sig (seed_query sys cubes avoid) limit least) framed_by found))
 
     -- a work
     abbrev Works : Blocking → Brief → World → Type 0
@@ -95,8 +81,11 @@ module _ (sys : System) (order : Order) (limit : ℕ) where
     work_at n (Push k level frame cube) b job w has a found = let no : ⊥ = cc in absurd no
     work_at n (Trace k steps) b job w has a found = let no : ⊥ = cc in absurd no
 
-    pub solved-work : (n : ℕ) → brief.job ≡ J.Work n → (w : World) → brief.world ≡ Some w → (a : Blocking) → Works a brief w → IsSolved sys limit brief (S.Work a)
-    solved-work n job w has a found given b = work_at n given b (sym (job-is given brief b) ∙ job) w has a found
+    pub solved-work : (n : ℕ) → brief.job ≡ J.Work n → (frame : List Cube) → frame ≡ brief.frame → (w : World) → brief.world ≡ Some w → (a : Blocking) →
+        IsBlocking sys limit (frame_at (brief.level - 1) frame) (diagram sys.sig w 0) a → IsSolved sys limit brief (S.Work a)
+    solved-work n job frame framed_by w has a found given b =
+        work_at n given b (sym (job-is given brief b) ∙ job) w has a
+        (subst (λ (cubes : List Cube). IsBlocking sys limit (frame_at (brief.level - 1) cubes) (diagram sys.sig w 0) a) framed_by found)
 
     -- a push
     abbrev Pushes : Pushing → Brief → Cube → Type 0
@@ -114,8 +103,11 @@ module _ (sys : System) (order : Order) (limit : ℕ) where
     push_at n (Work k level below world) b job c has a found = let no : ⊥ = cc in absurd no
     push_at n (Trace k steps) b job c has a found = let no : ⊥ = cc in absurd no
 
-    pub solved-push : (n : ℕ) → brief.job ≡ J.Push n → (c : Cube) → brief.cube ≡ Some c → (a : Pushing) → Pushes a brief c → IsSolved sys limit brief (S.Push a)
-    solved-push n job c has a found given b = push_at n given b (sym (job-is given brief b) ∙ job) c has a found
+    pub solved-push : (n : ℕ) → brief.job ≡ J.Push n → (frame : List Cube) → frame ≡ brief.frame → (c : Cube) → brief.cube ≡ Some c → (a : Pushing) →
+        IsPushing sys limit frame c a → IsSolved sys limit brief (S.Push a)
+    solved-push n job frame framed_by c has a found given b =
+        push_at n given b (sym (job-is given brief b) ∙ job) c has a
+        (subst (λ (cubes : List Cube). IsPushing sys limit cubes c a) framed_by found)
 
     -- a trace
     abbrev Traces : Unrolled → Brief → Type 0
