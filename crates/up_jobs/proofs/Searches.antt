@@ -1,5 +1,5 @@
 -- What the calls of a search answer, said of what was given.
-use Rattle.std.proofs.Common.{◌≡◌, ℕ, suc, ◌<◌, List, Option, None, Some, refl, sym}
+use Rattle.std.proofs.Common.{◌≡◌, ℕ, suc, List, Option, Some}
 use Rattle.std.specs.List.{All}
 use Rattle.fo_core.specs.declared.query.Query.{Query}
 use Rattle.fo_core.specs.declared.signature.Sig.{Sig}
@@ -19,7 +19,6 @@ use Rattle.up_diagram.specs.Diagrams.{CanDescribe}
 use Rattle.up_diagram.proofs.DiagramMet.{own_diagram_met}
 use Rattle.up_diagram.proofs.Leaving.{without_met}
 use Rattle.up_claims.specs.declared.kind.Kind.{Kind}
-use Rattle.up_claims.specs.declared.kind.Kind.TheVariants as K
 use Rattle.up_claims.specs.Blocked.{Passes, ends, drops, keeps, IsBlocked}
 use Rattle.up_claims.specs.Frames.{IsFrame}
 use Rattle.up_claims.specs.InferAsked.{IsLookAsked, for_seed}

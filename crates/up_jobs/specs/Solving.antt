@@ -1,6 +1,6 @@
 -- What the search of a job asks of its brief, and what it answers, said of what the worker was
 -- given and in the words of legality.
-use Rattle.std.specs.Prelude.{◌≡◌, ℕ, ◌-◌, ◌<◌, ◌≤◌, ◌^◌, List, Option, None, Some, ⊤}
+use Rattle.std.specs.Prelude.{◌≡◌, ℕ, ◌-◌, ◌<◌, ◌≤◌, ◌^◌, Option, None, Some, ⊤}
 use Rattle.std.specs.List.{All, sum}
 use Rattle.fo_core.specs.declared.order.Order.{Order}
 use Rattle.fo_core.specs.declared.signature.Sig.{Sig}
