@@ -51,7 +51,7 @@ module _ (sys : System) (order : Order) (limit : ℕ) where
     look_at : (given : Given) → IsBriefOf sys.sig given brief → job_of given ≡ J.Look → (least : Least) → Looks least brief → IsAnswer sys limit given (S.Look least)
     look_at (Look level frame avoid done) b job least found =
         let there = can-given (Look level frame avoid done) b in
-        looked sys there.infer.system limit level frame avoid done there.frame there.avoid least (subst (Looks least) b.same found)
+        looked sys there.infer.system limit level frame avoid done there.ready.frame there.ready.avoid least (subst (Looks least) b.same found)
     look_at (Work k level below world) b job least found = let no : ⊥ = cc in absurd no
     look_at (Push k level frame cube) b job least found = let no : ⊥ = cc in absurd no
     look_at (Trace k steps) b job least found = let no : ⊥ = cc in absurd no
@@ -75,7 +75,7 @@ module _ (sys : System) (order : Order) (limit : ℕ) where
         let moved : Works a (brief_of sys.sig (Work k level below world)) w = subst (λ (x : Brief). Works a x w) b.same found in
         let of_world : IsBlocking sys limit (frame_at (level - 1) (cubes_in below)) (diagram sys.sig world 0) a =
         subst (λ (v : World). IsBlocking sys limit (frame_at (level - 1) (cubes_in below)) (diagram sys.sig v 0) a) same moved in
-        worked sys there.infer.system limit k level below world (framed sys.sig below there.frame) there.parts.1 a
+        worked sys there.infer.system limit k level below world (framed sys.sig below there.ready.frame) there.ready.parts.1 a
         (subst (λ (f : Option (List Cube)). IsBlocking sys limit f (diagram sys.sig world 0) a) (sym b.frame) of_world)
     work_at n (Look level frame avoid done) b job w has a found = let no : ⊥ = cc in absurd no
     work_at n (Push k level frame cube) b job w has a found = let no : ⊥ = cc in absurd no
@@ -97,7 +97,7 @@ module _ (sys : System) (order : Order) (limit : ℕ) where
         let some : Some c ≡ Some cube = sym has ∙ ap (λ (x : Brief). x.cube) b.same in
         let same : c ≡ cube = cc in
         let moved : IsPushing sys limit frame c a = subst (λ (x : Brief). Pushes a x c) b.same found in
-        pushed sys there.infer.system limit k level frame cube there.frame there.parts a
+        pushed sys there.infer.system limit k level frame cube there.ready.frame there.ready.parts a
         (subst (λ (d : Cube). IsPushing sys limit frame d a) same moved)
     push_at n (Look level frame avoid done) b job c has a found = let no : ⊥ = cc in absurd no
     push_at n (Work k level below world) b job c has a found = let no : ⊥ = cc in absurd no

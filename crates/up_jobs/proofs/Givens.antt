@@ -26,7 +26,7 @@ use Rattle.up_machine.specs.Sound.{Each, IsFitGiven}
 use Rattle.up_machine.proofs.Holding.{held-at, others}
 use Rattle.up_machine.proofs.Lists.{Each-nil, get-push, IsPushed, get-filter}
 use Rattle.up_machine.proofs.SortedDiagrams.{diagram_sorted}
-use Rattle.up_jobs.specs.Solving.{HasFrame, IsInRange, CanSolve}
+use Rattle.up_jobs.specs.Solving.{HasFrame, IsInRange, IsReady, CanSolve}
 
 -- a frame told by cubes is told by its own cubes
 own-cubes : (n : ℕ) (cubes : List Cube) → frame_at n cubes ≡ frame_at n (cubes_in (frame_at n cubes))
@@ -104,28 +104,27 @@ states-sorted sig good (w ∷ worlds) h =
     All-cons (IsCube sig) (state_cube sig w) (state_cubes sig worlds) (diagram_sorted sig w 0 good fits fits.some_copy)
     (states-sorted sig good worlds (All-tail (Fits sig) w worlds h))
 
-pub can-solve : (sys : System) (order : Order) (given : Given) → CanInfer sys order → IsFitGiven sys.sig given → IsInRange given → CanSolve sys order (brief_of sys.sig given)
-can-solve sys order (Work k level below world) infer fit range = record {
-  infer = infer;
-  frame = cubes-sorted sys.sig below fit.0;
-  avoid = All-nil (IsCube sys.sig);
-  parts = (range.0, record { signature = infer.system.signature; fits = fit.1; copy = fit.1.some_copy; few = range.1 });
+ready : (sig : Sig) → IsSig sig → (given : Given) → IsFitGiven sig given → IsInRange given → IsReady sig (brief_of sig given)
+ready sig good (Work k level below world) fit range = record {
+  frame = cubes-sorted sig below fit.0;
+  avoid = All-nil (IsCube sig);
+  parts = (range.0, record { signature = good; fits = fit.1; copy = fit.1.some_copy; few = range.1 });
 }
-can-solve sys order (Look level frame avoid done) infer fit range = record {
-  infer = infer;
+ready sig good (Look level frame avoid done) fit range = record {
   frame = fit.0;
-  avoid = states-sorted sys.sig infer.system.signature avoid fit.1;
+  avoid = states-sorted sig good avoid fit.1;
   parts = tt;
 }
-can-solve sys order (Push k level frame cube) infer fit range = record {
-  infer = infer;
+ready sig good (Push k level frame cube) fit range = record {
   frame = fit.0;
-  avoid = All-nil (IsCube sys.sig);
+  avoid = All-nil (IsCube sig);
   parts = fit.1;
 }
-can-solve sys order (Trace k steps) infer fit range = record {
-  infer = infer;
-  frame = All-nil (IsCube sys.sig);
-  avoid = All-nil (IsCube sys.sig);
+ready sig good (Trace k steps) fit range = record {
+  frame = All-nil (IsCube sig);
+  avoid = All-nil (IsCube sig);
   parts = range;
 }
+
+pub can-solve : (sys : System) (order : Order) (given : Given) → CanInfer sys order → IsFitGiven sys.sig given → IsInRange given → CanSolve sys order (brief_of sys.sig given)
+can-solve sys order given infer fit range = record { infer = infer; ready = ready sys.sig infer.system.signature given fit range }

@@ -50,13 +50,16 @@ HasParts sig J.Look brief = ⊤
 HasParts sig (J.Push k) brief = HasCube sig brief.cube
 HasParts sig (J.Trace k) brief = brief.level < 2 ^ 32 - 1
 
--- inference may ask queries of the system, the cubes are well-sorted, and the brief has what its
--- job needs
+-- the cubes are well-sorted, and the brief has what its job needs
+pub record IsReady (sig : Sig) (brief : Brief) : Type 0 where
+  pub frame : All (IsCube sig) brief.frame
+  pub avoid : All (IsCube sig) brief.avoid
+  pub parts : HasParts sig brief.job brief
+
+-- inference may ask queries of the system, and the brief is ready
 pub record CanSolve (sys : System) (order : Order) (brief : Brief) : Type 0 where
   pub infer : CanInfer sys order
-  pub frame : All (IsCube sys.sig) brief.frame
-  pub avoid : All (IsCube sys.sig) brief.avoid
-  pub parts : HasParts sys.sig brief.job brief
+  pub ready : IsReady sys.sig brief
 
 -- an obligation's level is at least 1, and its world has fewer than 2^32 elements in all; a run has
 -- fewer than 2^32 - 1 steps

@@ -5,6 +5,7 @@
 mod answer_laws;
 mod event_laws;
 mod given_laws;
+mod ready;
 mod solved;
 mod solving;
 mod threads;
@@ -15,5 +16,6 @@ pub use event_laws::{
     an_answered_work_is_reported,
 };
 pub use given_laws::{what_fits_can_be_solved, works_are_given_frames_of_their_levels};
+pub use ready::is_ready;
 pub use solved::Solved;
 pub use solving::solve_brief;

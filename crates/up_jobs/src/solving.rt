@@ -16,12 +16,9 @@ use up_unroll::unroll;
 /// finder's limit, it gives the first such query, its weight, and what it was asked for.
 ///
 /// It asks for a well-sorted system ([`System::is_well_sorted`]), for an order that rises along
-/// each edge of the system's sort graph for inference, for well-sorted cubes
-/// ([`Cube::is_well_sorted`](up_diagram::Cube::is_well_sorted)), and for what the job needs: of a
-/// work a level of at least 1 and a world that fits, whose elements have numbers of 32 bits all
-/// together; of a push the clause's cube; of a trace fewer than 2^32 - 1 steps. The one error is
-/// out of memory, which is also answered where a number of variables or of literals doesn't fit
-/// 32 bits.
+/// each edge of the system's sort graph for inference, and for a brief that is ready
+/// ([`is_ready`](crate::is_ready)). The one error is out of memory, which is also answered where a
+/// number of variables or of literals doesn't fit 32 bits.
 pub fn solve_brief<F: Finder>(
     alloc: Global,
     finder: &mut F,
