@@ -1,5 +1,5 @@
 -- What workers are given: its frames, and that its brief can be solved.
-use Rattle.std.proofs.Common.{◌≡◌, ℕ, zero, suc, ◌-◌, inl, inr, List, [], ◌∷◌, ◌++◌, Option, None, Some, slice_get, refl, subst}
+use Rattle.std.proofs.Common.{◌≡◌, ℕ, zero, suc, ◌-◌, inl, inr, List, [], ◌∷◌, ◌++◌, Option, None, Some, slice_get, refl, sym, subst}
 use Rattle.std.specs.Prelude.{option_map}
 use Rattle.std.specs.List.{All}
 use Rattle.std.proofs.lemmas.List.Elements.{All-nil, All-cons, All-head, All-tail}
@@ -13,6 +13,7 @@ use Rattle.up_diagram.specs.declared.cube.Cube.{Cube}
 use Rattle.up_diagram.specs.Cubes.{IsCube}
 use Rattle.up_claims.specs.Frames.{IsFrame, frame_at}
 use Rattle.up_claims.specs.Inferring.{CanInfer}
+use Rattle.up_machine.specs.declared.brief.Brief.{Brief}
 use Rattle.up_machine.specs.declared.job.Job.{Job}
 use Rattle.up_machine.specs.declared.job.Job.TheVariants as J
 use Rattle.up_machine.specs.declared.end.End.TheVariants as N
@@ -126,5 +127,9 @@ ready sig good (Trace k steps) fit range = record {
   parts = range;
 }
 
-pub can-solve : (sys : System) (order : Order) (given : Given) → CanInfer sys order → IsFitGiven sys.sig given → IsInRange given → CanSolve sys order (brief_of sys.sig given)
-can-solve sys order given infer fit range = record { infer = infer; ready = ready sys.sig infer.system.signature given fit range }
+pub can-solve : (sys : System) (order : Order) (given : Given) (brief : Brief) → CanInfer sys order → IsFitGiven sys.sig given → IsInRange given →
+    brief ≡ brief_of sys.sig given → CanSolve sys order brief
+can-solve sys order given brief infer fit range same = record {
+  infer = infer;
+  ready = subst (IsReady sys.sig) (sym same) (ready sys.sig infer.system.signature given fit range);
+}

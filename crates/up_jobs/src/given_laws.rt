@@ -4,6 +4,7 @@ ghost use Rattle.std.specs.Prelude.{◌≡◌, ℕ, List, Some};
 ghost use Rattle.fo_core.specs.declared.order.Order.{Order};
 ghost use Rattle.fo_core.specs.declared.system.System.{System};
 ghost use Rattle.up_claims.specs.Inferring.{CanInfer};
+ghost use Rattle.up_machine.specs.declared.brief.Brief.{Brief};
 ghost use Rattle.up_machine.specs.declared.event.Event.{Event};
 ghost use Rattle.up_machine.specs.Briefs.{brief_of};
 ghost use Rattle.up_machine.specs.Machine.{Given, held_by};
@@ -17,9 +18,9 @@ pub fn works_are_given_frames_of_their_levels()
         held_by (replay history).jobs w ≡ Some given → HasFrame given }
 {}
 
-/// A brief of what fits the signature and is in range can be solved.
+/// The brief of what fits the signature and is in range can be solved.
 pub fn what_fits_can_be_solved()
-    ensures { (sys : System) (order : Order) (given : Given) →
+    ensures { (sys : System) (order : Order) (given : Given) (brief : Brief) →
         CanInfer sys order → IsFitGiven sys.sig given → IsInRange given →
-        CanSolve sys order (brief_of sys.sig given) }
+        brief ≡ brief_of sys.sig given → CanSolve sys order brief }
 {}
