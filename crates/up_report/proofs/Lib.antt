@@ -1,0 +1,3 @@
+pub mod ClauseOptions
+pub mod ClauseVariables
+pub mod ClauseWords

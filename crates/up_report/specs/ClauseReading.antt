@@ -104,10 +104,12 @@ symbol_heads sig sorts sign k =
 abbrev pub signed_heads : Sig → List ℕ → Bool → List Head
 signed_heads sig sorts sign = flat_map (symbol_heads sig sorts sign) (range_with_len 0 (length sig.symbols))
 
+abbrev pub equal_heads : ℕ → List Head
+equal_heads count = flat_map (λ i. Equal i ∷ []) (range_with_len 0 count)
+
 -- the heads of denials over variables of these sorts
 abbrev pub heads : Sig → List ℕ → List Head
-heads sig sorts =
-    map Equal (range_with_len 0 (length sorts)) ++ (signed_heads sig sorts false ++ signed_heads sig sorts true)
+heads sig sorts = equal_heads (length sorts) ++ (signed_heads sig sorts false ++ signed_heads sig sorts true)
 
 abbrev pub head_text : Sig → Names → Head → List ℕ
 head_text sig names Forall = codes "forall V0:"

@@ -1,6 +1,6 @@
 //! The variables that a clause binds.
 
-ghost use Rattle.std.specs.Prelude.{◌≡◌, ◌^◌, ◌<◌, length, IfOk};
+ghost use Rattle.std.specs.Prelude.{◌≡◌, ◌^◌, ◌-◌, ◌<◌, length, IfOk};
 ghost use Rattle.fo_text.specs.Texts.{NamesEach};
 ghost use Rattle.fo_text.specs.Reading.{Gives, choice_at};
 ghost use Rattle.up_report.specs.ClauseReading.{sort_at, binder_at, chain, sort_ending as ending_of};

@@ -3,7 +3,7 @@
 ghost use Rattle.std.specs.Prelude.{◌≡◌, ◌^◌, ◌<◌, ◌++◌, length, map, codes, ⊤};
 ghost use Rattle.fo_core.specs.Tables.{symbol_at};
 ghost use Rattle.fo_core.specs.Sorted.{IsSig};
-ghost use Rattle.fo_text.specs.Reading.{Gives, ◌>>=◌, choice_at};
+ghost use Rattle.fo_text.specs.Reading.{Gives, choice_at};
 ghost use Rattle.up_report.specs.ClauseTexts.{CanName};
 ghost use Rattle.up_report.specs.ClauseReading.{IsHeadOf, texts, stands, differ_at, fact_at, constant_at, value_at, applied_at, denied_at, denials_after, body_from, body_at, chain, denial_at};
 
@@ -174,7 +174,7 @@ fn read_denials<'a>(
     ensures { Gives (λ x. (x.0, x.1.now)) result (denials_after sig.now names.now sorts.now lits bytes.now) }
 {
     let mut rest = bytes;
-    'each: for _ in 0..bytes.len() + 1 {
+    'each: for i in 0..bytes.len() + 1 {
         let (lit, last, after) = read_denial(alloc, sig, names, sorts, standing, rest)?;
         lits.push(lit)?;
         if last {

@@ -1,7 +1,7 @@
 //! Which symbols may stand in a clause, and the head of a denial.
 
-ghost use Rattle.std.specs.Prelude.{◌≡◌, ◌^◌, ◌<◌, ◌++◌, Bool, [], ◌∷◌, length, map, codes, decimal, IfSome, IfOk, Ok};
-ghost use Rattle.std.specs.List.{list_all, range_with_len};
+ghost use Rattle.std.specs.Prelude.{◌≡◌, ◌^◌, ◌<◌, ◌++◌, ◌&&◌, ◌||◌, not, true, false, [], ◌∷◌, length, map, codes, decimal, IfSome, IfOk, Ok};
+ghost use Rattle.std.specs.List.{list_all};
 ghost use Rattle.fo_core.specs.Tables.{symbol_at};
 ghost use Rattle.fo_core.specs.Sorted.{IsSig};
 ghost use Rattle.fo_text.specs.Texts.{NamesEach};
@@ -9,7 +9,7 @@ ghost use Rattle.fo_text.specs.Reading.{Gives, choose, choice_at};
 ghost use Rattle.up_report.specs.declared.clause_heads.Head.TheVariants.{Forall, Nothing, Equal, Applied};
 ghost use Rattle.up_report.specs.declared.clause_heads.Ending.TheVariants.{Equality};
 ghost use Rattle.up_report.specs.ClauseTexts.{CanName, symbol_name, mark as mark_of};
-ghost use Rattle.up_report.specs.ClauseReading.{texts, has_variable, stands as stands_of, may_stand, name_ending as ending_of, symbol_heads, signed_heads, heads, head_text, first_heads};
+ghost use Rattle.up_report.specs.ClauseReading.{texts, has_variable, stands as stands_of, name_ending as ending_of, symbol_heads, signed_heads, equal_heads, heads, head_text, first_heads};
 
 use crate::clause_heads::{Ending, Head};
 use crate::clause_words::{ended, guess, later};
@@ -85,6 +85,13 @@ fn read_name<'a>(
     ended(bytes, mark(sign), name, name_ending(sig.symbols.at(k)))
 }
 
+/// Whether `!` may stand in front of the symbol, if it is to, where its variables are there or not.
+fn may_stand(stands: bool, sign: bool, symbol: &Symbol) -> bool
+    ensures { result ≡ (stands && (not sign || symbol.now.relation)) }
+{
+    stands && (!sign || symbol.relation)
+}
+
 /// Reads a symbol that may stand here, with `!` before it or not, and the text that ends its name.
 fn read_signed<'a>(
     bytes: &'a [u8],
@@ -101,7 +108,7 @@ fn read_signed<'a>(
 {
     let mut least = bytes.len();
     'each: for k in 0..sig.symbols.len() {
-        if !standing[k] || (sign && !sig.symbols.at(k).relation) {
+        if !may_stand(standing[k], sign, sig.symbols.at(k)) {
             continue;
         }
         match read_name(bytes, sig, names, sign, k) {
@@ -168,7 +175,7 @@ fn try_equal<'a>(
     count: usize,
 ) -> Result<(Head, &'a [u8]), Halt>
     requires few { count < 2 ^ 32 }
-    ensures { Gives (λ x. (x.0, x.1.now)) result (choose (head_text sig.now names.now) (map Equal (range_with_len 0 count)) bytes.now) }
+    ensures { Gives (λ x. (x.0, x.1.now)) result (choose (head_text sig.now names.now) (equal_heads count) bytes.now) }
 {
     let mut least = bytes.len();
     'each: for v in 0..count {
