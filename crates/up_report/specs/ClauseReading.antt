@@ -181,9 +181,15 @@ denials_from sig names sorts head bytes = do
   if x.0.1 then Ok (x.0.0 ∷ [], x.1)
       else denials_after sig names sorts (x.0.0 ∷ []) x.1
 
+abbrev pub is_nothing : Head → Bool
+is_nothing Forall = false
+is_nothing Nothing = true
+is_nothing (Equal i) = false
+is_nothing (Applied sign k last) = false
+
 abbrev pub body_from : Sig → Names → List ℕ → Head → List ℕ → Read (List Flat)
-body_from sig names sorts Nothing bytes = Ok ([], bytes)
-body_from sig names sorts head bytes = denials_from sig names sorts head bytes
+body_from sig names sorts head bytes =
+    if is_nothing head then Ok ([], bytes) else denials_from sig names sorts head bytes
 
 -- what follows the binders
 unfoldable pub body_at : Sig → Names → List ℕ → List ℕ → Read (List Flat)
@@ -231,9 +237,15 @@ free_from sig names level head bytes = do
   lits ← body_from sig names [] head bytes
   Ok (made level [] lits.0, lits.1)
 
+abbrev pub is_forall : Head → Bool
+is_forall Forall = true
+is_forall Nothing = false
+is_forall (Equal i) = false
+is_forall (Applied sign k last) = false
+
 abbrev pub kept_from : Sig → Names → ℕ → Head → List ℕ → Read Kept
-kept_from sig names level Forall bytes = bound_at sig names level bytes
-kept_from sig names level head bytes = free_from sig names level head bytes
+kept_from sig names level head bytes =
+    if is_forall head then bound_at sig names level bytes else free_from sig names level head bytes
 
 -- what a clause may begin with, after its level
 abbrev pub first_heads : Sig → List Head

@@ -1,9 +1,9 @@
 //! The variables that a clause binds.
 
-ghost use Rattle.std.specs.Prelude.{◌≡◌, ◌^◌, ◌-◌, ◌<◌, length, IfOk};
+ghost use Rattle.std.specs.Prelude.{◌≡◌, ◌^◌, ◌-◌, ◌<◌, [], length, slice_index_or};
 ghost use Rattle.fo_text.specs.Texts.{NamesEach};
 ghost use Rattle.fo_text.specs.Reading.{Gives, choice_at};
-ghost use Rattle.up_report.specs.ClauseReading.{sort_at, binder_at, chain, sort_ending as ending_of};
+ghost use Rattle.up_report.specs.ClauseReading.{texts, sort_at, binder_at, chain, sort_ending as ending_of};
 
 use crate::clause_heads::Ending;
 use crate::clause_words::ended;
@@ -24,6 +24,21 @@ fn sort_ending(k: usize) -> Ending
     }
 }
 
+/// Reads the name of this sort, as that of variable k, and a text that ends it.
+fn read_sort_name<'a>(
+    names: &Names,
+    k: usize,
+    sort: u32,
+    bytes: &'a [u8],
+) -> Result<(usize, &'a [u8]), Halt>
+    requires within { sort < length names.now.sorts }
+    requires fits { k < 2 ^ 64 - 1 }
+    ensures { Gives (λ x. (x.0, x.1.now)) result (choice_at [] (slice_index_or names.now.sorts sort []) (texts (ending_of k)) bytes.now) }
+{
+    let name = names.sorts.at(sort as usize).as_str().as_bytes();
+    ended(bytes, b"", name, sort_ending(k))
+}
+
 /// Reads the name of the sort of variable k and a text that ends it: which one, by its place.
 fn read_sort<'a>(
     sig: &Sig,
@@ -35,11 +50,9 @@ fn read_sort<'a>(
     requires fits { k < 2 ^ 64 - 1 }
     ensures { Gives (λ x. ((x.0, x.1), x.2.now)) result (sort_at sig.now names.now k bytes.now) }
 {
-    let ending = sort_ending(k);
     let mut least = bytes.len();
     'each: for s in 0..sig.sorts {
-        let name = names.sorts.at(s as usize).as_str().as_bytes();
-        match ended(bytes, b"", name, ending) {
+        match read_sort_name(names, k, s, bytes) {
             Ok((e, rest)) => return Ok((s, e, rest)),
             Err(Halt::Memory) => return Err(Halt::Memory),
             Err(Halt::Fault(left)) => least = least.min(left),

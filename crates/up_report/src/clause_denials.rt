@@ -5,9 +5,9 @@ ghost use Rattle.fo_core.specs.Tables.{symbol_at};
 ghost use Rattle.fo_core.specs.Sorted.{IsSig};
 ghost use Rattle.fo_text.specs.Reading.{Gives, choice_at};
 ghost use Rattle.up_report.specs.ClauseTexts.{CanName};
-ghost use Rattle.up_report.specs.ClauseReading.{IsHeadOf, texts, stands, differ_at, fact_at, constant_at, value_at, applied_at, denied_at, denials_after, body_from, body_at, chain, denial_at};
+ghost use Rattle.up_report.specs.ClauseReading.{IsHeadOf, texts, stands, differ_at, fact_at, constant_at, value_at, applied_at, denied_at, denials_after, denials_from, body_from, body_at, chain, denial_at};
 
-use crate::clause_heads::{Ending, Head};
+use crate::clause_heads::{Ending, Head, is_nothing};
 use crate::clause_symbols::{read_body_head, read_head};
 use crate::clause_variables::{read_arguments, read_variable};
 use crate::clause_words::ended;
@@ -185,7 +185,34 @@ fn read_denials<'a>(
     Err(Halt::Fault(0))
 }
 
-/// Reads the denial with this head, and all others to the end of the line.
+/// Reads the denial with this head, and those that follow it to the end of the line.
+#[tactic(auto, unfolding(crate::specs::ClauseReading::denials_from))]
+fn read_denials_from<'a>(
+    alloc: Global,
+    sig: &Sig,
+    names: &Names,
+    sorts: &[u32],
+    standing: &[bool],
+    head: Head,
+    bytes: &'a [u8],
+) -> Result<(Seq<Flat>, &'a [u8]), Halt>
+    requires signature { IsSig sig.now }
+    requires named { CanName sig.now names.now }
+    requires standing { standing.now ≡ map (stands sorts.now) sig.now.symbols }
+    requires few { length sorts.now < 2 ^ 32 }
+    requires head { IsHeadOf sig.now sorts.now head }
+    ensures { Gives (λ x. (x.0, x.1.now)) result (denials_from sig.now names.now sorts.now head bytes.now) }
+{
+    let (lit, last, rest) = read_denied(alloc, sig, sorts, head, bytes)?;
+    let mut lits = Seq::new(alloc);
+    lits.push(lit)?;
+    if last {
+        return Ok((lits, rest));
+    }
+    read_denials(alloc, sig, names, sorts, standing, lits, rest)
+}
+
+/// Reads what follows this head to the end of the line.
 pub fn read_body_from<'a>(
     alloc: Global,
     sig: &Sig,
@@ -202,16 +229,10 @@ pub fn read_body_from<'a>(
     requires head { IsHeadOf sig.now sorts.now head }
     ensures { Gives (λ x. (x.0, x.1.now)) result (body_from sig.now names.now sorts.now head bytes.now) }
 {
-    let mut lits = Seq::new(alloc);
-    if let Head::Nothing = head {
-        return Ok((lits, bytes));
+    if is_nothing(head) {
+        return Ok((Seq::new(alloc), bytes));
     }
-    let (lit, last, rest) = read_denied(alloc, sig, sorts, head, bytes)?;
-    lits.push(lit)?;
-    if last {
-        return Ok((lits, rest));
-    }
-    read_denials(alloc, sig, names, sorts, standing, lits, rest)
+    read_denials_from(alloc, sig, names, sorts, standing, head, bytes)
 }
 
 /// Reads what follows the binders.

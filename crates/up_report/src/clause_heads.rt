@@ -1,3 +1,6 @@
+ghost use Rattle.std.specs.Prelude.{◌≡◌};
+ghost use Rattle.up_report.specs.ClauseReading.{is_nothing as is_nothing_of, is_forall as is_forall_of};
+
 /// What a part of a clause begins with. It decides how the part is read on.
 #[derive(Debug, Clone, Copy)]
 pub enum Head {
@@ -31,4 +34,18 @@ pub enum Ending {
     Sort,
     /// No variable can follow.
     LastSort,
+}
+
+/// Whether the clause denies nothing.
+pub fn is_nothing(head: Head) -> bool
+    ensures { result ≡ is_nothing_of head }
+{
+    matches!(head, Head::Nothing)
+}
+
+/// Whether the clause's variables follow.
+pub fn is_forall(head: Head) -> bool
+    ensures { result ≡ is_forall_of head }
+{
+    matches!(head, Head::Forall)
 }

@@ -8,7 +8,7 @@ ghost use Rattle.up_report.specs.ClauseReading.{IsHeadOf, stands, bound_at, free
 
 use crate::clause_binders::read_binders;
 use crate::clause_denials::{read_body, read_body_from};
-use crate::clause_heads::Head;
+use crate::clause_heads::{Head, is_forall};
 use crate::clause_symbols::{read_first_head, standing};
 use fo_core::{Names, Seq, Sig};
 use fo_text::{Halt, number};
@@ -84,7 +84,7 @@ fn read_from<'a>(
     requires head { IsHeadOf sig.now [] head }
     ensures { Gives (λ x. (x.0, x.1.now)) result (kept_from sig.now names.now level head bytes.now) }
 {
-    if let Head::Forall = head {
+    if is_forall(head) {
         return read_bound(alloc, sig, names, level, bytes);
     }
     read_free(alloc, sig, names, standing, level, head, bytes)

@@ -1,15 +1,15 @@
 //! Which symbols may stand in a clause, and the head of a denial.
 
-ghost use Rattle.std.specs.Prelude.{◌≡◌, ◌^◌, ◌<◌, ◌++◌, ◌&&◌, ◌||◌, not, true, false, [], ◌∷◌, length, map, codes, decimal, IfSome, IfOk, Ok};
+ghost use Rattle.std.specs.Prelude.{◌≡◌, ◌^◌, ◌<◌, ◌++◌, true, false, [], ◌∷◌, length, map, codes, decimal, IfSome, IfOk, Ok};
 ghost use Rattle.std.specs.List.{list_all};
 ghost use Rattle.fo_core.specs.Tables.{symbol_at};
 ghost use Rattle.fo_core.specs.Sorted.{IsSig};
 ghost use Rattle.fo_text.specs.Texts.{NamesEach};
-ghost use Rattle.fo_text.specs.Reading.{Gives, choose, choice_at};
+ghost use Rattle.fo_text.specs.Reading.{Gives, literal_at, choose, choice_at};
 ghost use Rattle.up_report.specs.declared.clause_heads.Head.TheVariants.{Forall, Nothing, Equal, Applied};
 ghost use Rattle.up_report.specs.declared.clause_heads.Ending.TheVariants.{Equality};
 ghost use Rattle.up_report.specs.ClauseTexts.{CanName, symbol_name, mark as mark_of};
-ghost use Rattle.up_report.specs.ClauseReading.{texts, has_variable, stands as stands_of, name_ending as ending_of, symbol_heads, signed_heads, equal_heads, heads, head_text, first_heads};
+ghost use Rattle.up_report.specs.ClauseReading.{texts, has_variable, stands as stands_of, may_stand as may_stand_of, ended as ended_text, name_ending as ending_of, symbol_heads, signed_heads, equal_heads, heads, head_text, first_heads};
 
 use crate::clause_heads::{Ending, Head};
 use crate::clause_words::{ended, guess, later};
@@ -85,11 +85,13 @@ fn read_name<'a>(
     ended(bytes, mark(sign), name, name_ending(sig.symbols.at(k)))
 }
 
-/// Whether `!` may stand in front of the symbol, if it is to, where its variables are there or not.
-fn may_stand(stands: bool, sign: bool, symbol: &Symbol) -> bool
-    ensures { result ≡ (stands && (not sign || symbol.now.relation)) }
+/// Whether the symbol of number k may stand here, with `!` before it or not.
+fn may_stand(sig: &Sig, sorts: &[u32], standing: &[bool], sign: bool, k: usize) -> bool
+    requires within { k < length sig.now.symbols }
+    requires standing { standing.now ≡ map (stands_of sorts.now) sig.now.symbols }
+    ensures { result ≡ may_stand_of sorts.now sign (symbol_at sig.now k) }
 {
-    stands && (!sign || symbol.relation)
+    standing[k] && (!sign || sig.symbols.at(k).relation)
 }
 
 /// Reads a symbol that may stand here, with `!` before it or not, and the text that ends its name.
@@ -108,7 +110,7 @@ fn read_signed<'a>(
 {
     let mut least = bytes.len();
     'each: for k in 0..sig.symbols.len() {
-        if !may_stand(standing[k], sign, sig.symbols.at(k)) {
+        if !may_stand(sig, sorts, standing, sign, k) {
             continue;
         }
         match read_name(bytes, sig, names, sign, k) {
@@ -143,16 +145,18 @@ fn read_symbol<'a>(
 }
 
 /// Reads this variable as one of two that aren't to differ.
-fn read_equal<'a>(bytes: &'a [u8], v: u32) -> Result<(usize, &'a [u8]), Halt>
-    ensures { Gives (λ x. (x.0, x.1.now)) result (choice_at (codes "V") (decimal v) (texts Equality) bytes.now) }
+fn read_equal<'a>(bytes: &'a [u8], v: u32) -> Result<&'a [u8], Halt>
+    ensures { Gives (λ rest. rest.now) result (literal_at (ended_text (codes "V") (decimal v) Equality 0) bytes.now) }
 {
     let mut buffer = Buffer::new();
-    ended(bytes, b"V", buffer.format(v).as_bytes(), Ending::Equality)
+    let rest = literal(bytes, b"V")?;
+    let rest = literal(rest, buffer.format(v).as_bytes())?;
+    literal(rest, b" = V")
 }
 
 /// The variable at the front, if it is one of two that aren't to differ.
 fn find_equal<'a>(bytes: &'a [u8], count: usize) -> Option<(u32, &'a [u8])>
-    ensures { IfSome result (λ x. (x.0 < count) × (choice_at (codes "V") (decimal x.0) (texts Equality) bytes.now ≡ Ok (0, x.1.now))) }
+    ensures { IfSome result (λ x. (x.0 < count) × (literal_at (ended_text (codes "V") (decimal x.0) Equality 0) bytes.now ≡ Ok x.1.now)) }
 {
     if bytes.is_empty() {
         return None;
@@ -162,7 +166,7 @@ fn find_equal<'a>(bytes: &'a [u8], count: usize) -> Option<(u32, &'a [u8])>
         return None;
     }
     match read_equal(bytes, v) {
-        Ok((_, rest)) => Some((v, rest)),
+        Ok(rest) => Some((v, rest)),
         Err(_) => None,
     }
 }
@@ -180,7 +184,7 @@ fn try_equal<'a>(
     let mut least = bytes.len();
     'each: for v in 0..count {
         match read_equal(bytes, v as u32) {
-            Ok((_, rest)) => return Ok((Head::Equal(v as u32), rest)),
+            Ok(rest) => return Ok((Head::Equal(v as u32), rest)),
             Err(Halt::Memory) => return Err(Halt::Memory),
             Err(Halt::Fault(left)) => least = least.min(left),
         }
