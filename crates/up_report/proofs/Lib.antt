@@ -1,3 +1,6 @@
+pub mod ClauseArguments
+pub mod ClauseBinders
+pub mod ClauseChains
 pub mod ClauseHeads
 pub mod ClauseLoops
 pub mod ClauseOptions
