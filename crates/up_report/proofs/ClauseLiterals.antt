@@ -3,7 +3,8 @@ use Rattle.std.proofs.Common.{◌≡◌, ℕ, zero, suc, ◌+◌, ◌-◌, ◌^�
 use Rattle.std.specs.Prelude.{⊤}
 use Rattle.std.specs.List.{All, AllByRecursion, AllZip, list_any, list_all}
 use Rattle.std.proofs.lemmas.Bool.{eq-eqb, ne_eqb, eqb-true}
-use Rattle.std.proofs.lemmas.List.{append-nil}
+use Rattle.std.proofs.Math.Dec.{eqb-suc-zero}
+use Rattle.std.proofs.lemmas.List.{append-nil, nil_from_length}
 use Rattle.fo_core.specs.declared.signature.Symbol.{Symbol}
 use Rattle.fo_core.specs.declared.signature.Sig.{Sig}
 use Rattle.fo_core.specs.declared.names.Names.{Names}
@@ -197,7 +198,7 @@ module _ (sig : Sig) (names : Names) (named : CanName sig names) (sorts : List �
       ∙ regroup_value (symbol_name names f) (codes "(V") (arguments_text (w ∷ ws)) (decimal v) (end_text last)
       ∙ sym (ap (λ (l : List ℕ). l ++ (arguments_text (w ∷ ws) ++ (codes " != V" ++ (decimal v ++ end_text last)))) (headed_is false f false true false (some_arguments f false w ws a) a.kind))
 
-  line_words : (lit : Flat) (last : Bool) → IsFlat sig sorts lit → denial_line names (lit, last) ≡ heading (head_of lit last) ++ rest_text lit last
+  pub line_words : (lit : Flat) (last : Bool) → IsFlat sig sorts lit → denial_line names (lit, last) ≡ heading (head_of lit last) ++ rest_text lit last
   line_words (Differ i j) last h = regroup_equal (decimal i) (decimal j) (end_text last)
   line_words (Fact sign r vs) last h = fact_words sign r vs last h
   line_words (Value f vs v) last h = value_words f vs v last h.0
@@ -242,28 +243,31 @@ module _ (sig : Sig) (names : Names) (named : CanName sig names) (sorts : List �
         end = place_first (name_ending (symbol_at sig f)) (has_arguments (symbol_at sig f)) false (ending_is (symbol_at sig f) (has_arguments (symbol_at sig f)) false refl a.kind);
       })
 
-  head_in : (lit : Flat) (last : Bool) → IsFlat sig sorts lit → Among (heads sig sorts) (head_of lit last)
+  pub head_in : (lit : Flat) (last : Bool) → IsFlat sig sorts lit → Among (heads sig sorts) (head_of lit last)
   head_in (Differ i j) last h = to_equal sig names sorts i h.0.within
   head_in (Fact sign r vs) last h = fact_in sign r vs last h
   head_in (Value f vs v) last h = value_in f vs v h.0 h.1
 
   -- ---- what follows a head
 
-  abbrev Follows : Head → Flat × Bool → Type 0
+  abbrev pub Follows : Head → Flat × Bool → Type 0
   Follows h y = IsFlat sig sorts y.0 × (head_of y.0 y.1 ≡ h)
 
-  abbrev rest : Flat × Bool → List ℕ
+  abbrev pub rest : Flat × Bool → List ℕ
   rest y = rest_text y.0 y.1
+
+  abbrev said : Flat → Bool → Flat × Bool
+  said lit last = (lit, last)
 
   -- two variables
 
   flat_differ : (i j : ℕ) → i < length sorts → HasSort sorts j (get_or sorts i 0) → IsFlat sig sorts (Differ i j)
   flat_differ i j h k = (record { within = h; sort = sym k.sort }, k.within)
 
-  differ_back : (i : ℕ) (lit : Flat) (last : Bool) → IsFlat sig sorts lit → head_of lit last ≡ Equal i → (y : ℕ × Bool) × HasSort sorts y.0 (get_or sorts i 0) × ((Differ i y.0, y.1) ≡ (lit, last))
+  differ_back : (i : ℕ) (lit : Flat) (last : Bool) → IsFlat sig sorts lit → head_of lit last ≡ Equal i → (y : ℕ × Bool) × HasSort sorts y.0 (get_or sorts i 0) × (said (Differ i y.0) y.1 ≡ said lit last)
   differ_back i (Differ a j) last h e =
       let s : a ≡ i = ap number_in e in
-      ((j, last), record { within = h.1; sort = sym h.0.sort ∙ ap (λ (n : ℕ). get_or sorts n 0) s }, ap (λ (n : ℕ). (Differ n j, last)) (sym s))
+      ((j, last), record { within = h.1; sort = sym h.0.sort ∙ ap (λ (n : ℕ). get_or sorts n 0) s }, ap (λ (n : ℕ). said (Differ n j) last) (sym s))
   differ_back i (Fact sign r []) last h e = let k = ap is_equal e in absurd cc
   differ_back i (Fact sign r (v ∷ vs)) last h e = let k = ap is_equal e in absurd cc
   differ_back i (Value f vs v) last h e = let k = ap is_equal e in absurd cc
@@ -271,7 +275,14 @@ module _ (sig : Sig) (names : Names) (named : CanName sig names) (sorts : List �
   abbrev ended_value : Read (ℕ × ℕ) → Read (ℕ × Bool)
   ended_value r = r >>= λ v. Ok ((v.0.0, eqb v.0.1 1), v.1)
 
-  differ_by : (i : ℕ) (r : Read (ℕ × ℕ)) → (r >>= λ v. Ok ((Differ i v.0.0, eqb v.0.1 1), v.1)) ≡ (ended_value r >>= λ y. Ok ((Differ i y.0.0, y.0.1), y.1))
+  -- a literal of what was read
+  abbrev literal_of : (ℕ → Flat) → Read (ℕ × ℕ) → Read (Flat × Bool)
+  literal_of make r = r >>= λ v. Ok ((make v.0.0, eqb v.0.1 1), v.1)
+
+  abbrev ended_literal : (ℕ → Flat) → Read (ℕ × Bool) → Read (Flat × Bool)
+  ended_literal make r = r >>= λ y. Ok ((make y.0.0, y.0.1), y.1)
+
+  differ_by : (i : ℕ) (r : Read (ℕ × ℕ)) → literal_of (Differ i) r ≡ ended_literal (Differ i) (ended_value r)
   differ_by i (Ok v) = refl
   differ_by i (Err left) = refl
 
@@ -316,8 +327,205 @@ module _ (sig : Sig) (names : Names) (named : CanName sig names) (sorts : List �
     single a b h r one = single_by last (ending_by a b) one (subst (λ (x : Ending). last_place last < length (texts x)) (ending_is symbol a b h r) g.end)
 
     -- the literals that have this head
-    data Headed : Flat → Bool → Type 0 where
-      a_fact : (vs : List ℕ) (l : Bool) → IsApplied sig sorts true k vs → (vs ≡ [] → l ≡ last) → Headed (Fact sign k vs) l
-      a_value : (vs : List ℕ) (v : ℕ) (l : Bool) → IsApplied sig sorts false k vs → HasSort sorts v symbol.result → Headed (Value k vs v) l
+    record IsFactOf (lit : Flat) (l : Bool) : Type 0 where
+      vs : List ℕ
+      is : lit ≡ Fact sign k vs
+      applied : IsApplied sig sorts true k vs
+      last_is : vs ≡ [] → l ≡ last
 
-  -- end of the part
+    record IsValueOf (lit : Flat) : Type 0 where
+      vs : List ℕ
+      v : ℕ
+      is : lit ≡ Value k vs v
+      applied : IsApplied sig sorts false k vs
+      value : HasSort sorts v symbol.result
+
+    fact_same : (s : Bool) (r : ℕ) (vs : List ℕ) → s ≡ sign → r ≡ k → Fact s r vs ≡ Fact sign k vs
+    fact_same s r vs a b = ap (λ (x : Bool). Fact x r vs) a ∙ ap (λ (n : ℕ). Fact sign n vs) b
+
+    literal_headed : (lit : Flat) (l : Bool) → IsFlat sig sorts lit → head_of lit l ≡ here → IsFactOf lit l ⊎ IsValueOf lit
+    literal_headed (Differ i j) l h e = let n = ap is_equal e in absurd cc
+    literal_headed (Fact s r []) l h e =
+        let b : r ≡ k = ap number_in e in
+        inl (record { vs = []; is = fact_same s r [] (ap sign_in e) b; applied = subst (λ (n : ℕ). IsApplied sig sorts true n []) b h; last_is = λ x. ap last_in e })
+    literal_headed (Fact s r (v ∷ vs)) l h e =
+        let b : r ≡ k = ap number_in e in
+        inl (record { vs = v ∷ vs; is = fact_same s r (v ∷ vs) (ap sign_in e) b; applied = subst (λ (n : ℕ). IsApplied sig sorts true n (v ∷ vs)) b h; last_is = λ x. absurd (cc x) })
+    literal_headed (Value f vs v) l h e =
+        let b : f ≡ k = ap number_in e in
+        inr (record {
+          vs = vs;
+          v = v;
+          is = ap (λ (n : ℕ). Value n vs v) b;
+          applied = subst (λ (n : ℕ). IsApplied sig sorts false n vs) b h.0;
+          value = subst (λ (n : ℕ). HasSort sorts v (symbol_at sig n).result) b h.1;
+        })
+
+    fact_of : symbol.relation ≡ true → (lit : Flat) (l : Bool) → IsFlat sig sorts lit → head_of lit l ≡ here → IsFactOf lit l
+    fact_of r lit l h e = elim (literal_headed lit l h e) [
+      | inl f ↦ f
+      | inr v ↦ let q = v.applied.kind in absurd (cc (r, q))
+    ]
+
+    value_of : symbol.relation ≡ false → (lit : Flat) (l : Bool) → IsFlat sig sorts lit → head_of lit l ≡ here → IsValueOf lit
+    value_of r lit l h e = elim (literal_headed lit l h e) [
+      | inl f ↦ let q = f.applied.kind in absurd (cc (r, q))
+      | inr v ↦ v
+    ]
+
+    none_has : (args : List ℕ) → not (eqb (length args) 0) ≡ false → args ≡ []
+    none_has [] e = refl
+    none_has (s ∷ ss) e = let z = eqb-suc-zero (length ss) in let n = ap not z in absurd (cc (n, e))
+
+    some_has : (args : List ℕ) → not (eqb (length args) 0) ≡ true → 0 < length args
+    some_has [] e = absurd cc
+    some_has (s ∷ ss) e = omega arith
+
+    none_applied : (b : Bool) → symbol.relation ≡ b → symbol.args ≡ [] → IsApplied sig sorts b k []
+    none_applied b r e = record { symbol = g.within; kind = r; arguments = subst (λ (l : List ℕ). AllZip (HasSort sorts) [] l) (sym e) tt }
+
+    no_variables : (b : Bool) (vs : List ℕ) → IsApplied sig sorts b k vs → symbol.args ≡ [] → vs ≡ []
+    no_variables b vs a e = nil_from_length vs (as_many sorts vs symbol.args a.arguments ∙ ap (λ (l : List ℕ). length l) e)
+
+    -- a relation without arguments
+
+    exact_plain : symbol.args ≡ [] → symbol.relation ≡ true → Exact (Follows here) rest (λ bytes. Ok ((Fact sign k [], last), bytes))
+    exact_plain none r =
+        exact_words (λ y. y ≡ (Fact sign k [], last)) (Follows here) (λ y. []) rest (λ bytes. Ok ((Fact sign k [], last), bytes)) (λ bytes. Ok ((Fact sign k [], last), bytes)) (λ bytes. refl)
+        (λ y e. subst (λ (z : Flat × Bool). Follows here z × (rest z ≡ [])) (sym e) ((none_applied true r none, refl), refl)) back (exact_done (Fact sign k [], last))
+      where
+        back : (y : Flat × Bool) → Follows here y → y ≡ (Fact sign k [], last)
+        back y f =
+            let w = fact_of r y.0 y.1 f.0 f.1 in
+            let e = no_variables true w.vs w.applied none in
+            ap (λ (l : Flat). (l, y.1)) (w.is ∙ ap (λ (vs : List ℕ). Fact sign k vs) e) ∙ ap (λ (b : Bool). (Fact sign k [], b)) (w.last_is e)
+
+    -- a relation with arguments
+
+    abbrev as_fact : List ℕ → Read Bool → Read (Flat × Bool)
+    as_fact vs r = r >>= λ l. Ok ((Fact sign k vs, l.0), l.1)
+
+    abbrev fact_from : Read (List ℕ) → Read (Flat × Bool)
+    fact_from r = r >>= λ vs. choice_at [] [] (texts Denial) vs.1 >>= λ e. Ok ((Fact sign k vs.0, eqb e.0 1), e.1)
+
+    end_by : (vs : List ℕ) (r : Read ℕ) → (r >>= λ e. Ok ((Fact sign k vs, eqb e.0 1), e.1)) ≡ as_fact vs (r >>= λ e. Ok (eqb e.0 1, e.1))
+    end_by vs (Ok e) = refl
+    end_by vs (Err left) = refl
+
+    fact_by : (r : Read (List ℕ)) → fact_from r ≡ (r >>= λ vs. as_fact vs.0 (end_at vs.1))
+    fact_by (Ok vs) = end_by vs.0 (choice_at [] [] (texts Denial) vs.1)
+    fact_by (Err left) = refl
+
+    exact_fact : 0 < length symbol.args → symbol.relation ≡ true → last ≡ false → Exact (Follows here) rest (fact_at sig sorts sign k)
+    unfolding fact_at
+    exact_fact some r single_last =
+        exact_pair (λ vs. AllZip (HasSort sorts) vs symbol.args) arguments_text (arguments_at sorts symbol.args) (λ vs l. ⊤) (λ vs. end_text) (λ vs. end_at)
+        (Follows here) rest (fact_at sig sorts sign k) (λ vs l. (Fact sign k vs, l))
+        (λ bytes. fact_by (arguments_at sorts symbol.args bytes)) (λ vs l h t. fits vs l (as_many sorts vs symbol.args h) h)
+        (λ y f. let w = fact_of r y.0 y.1 f.0 f.1 in (w.vs, y.1, w.applied.arguments, tt, ap (λ (x : Flat). (x, y.1)) (sym w.is)))
+        (exact_wanted sorts symbol.args few some arguments_have) (λ vs h. exact_end)
+      where
+        fits : (vs : List ℕ) (l : Bool) → length vs ≡ length symbol.args → AllZip (HasSort sorts) vs symbol.args → Follows here (Fact sign k vs, l) × (rest (Fact sign k vs, l) ≡ arguments_text vs ++ end_text l)
+        fits [] l e h = absurd (omega (arith, e, some))
+        fits (v ∷ vs) l e h = ((record { symbol = g.within; kind = r; arguments = h }, ap (λ (b : Bool). Applied sign k b) (sym single_last)), refl)
+
+    -- a constant
+
+    constant_by : (r : Read (ℕ × ℕ)) → literal_of (Value k []) r ≡ ended_literal (Value k []) (ended_value r)
+    constant_by (Ok v) = refl
+    constant_by (Err left) = refl
+
+    value_head : sign ≡ false → last ≡ false → Applied false k false ≡ here
+    value_head a b = ap (λ (x : Bool). Applied x k false) (sym a) ∙ ap (λ (x : Bool). Applied sign k x) (sym b)
+
+    exact_constant : symbol.args ≡ [] → symbol.relation ≡ false → last ≡ false → Exact (Follows here) rest (constant_at sig sorts k)
+    unfolding constant_at
+    exact_constant none r single_last =
+        exact_map (λ (y : ℕ × Bool). HasSort sorts y.0 symbol.result) (λ y. decimal y.0 ++ end_text y.1) (last_variable_at sorts symbol.result) (Follows here) rest (constant_at sig sorts k)
+        (λ y. (Value k [] y.0, y.1)) (λ bytes. constant_by (variable_at sorts Denial symbol.result bytes))
+        (λ y h. (((none_applied false r none, h), value_head (unsigned r) single_last), refl)) back
+        (exact_last_variable sorts symbol.result (value_has r).0 few (value_has r).1)
+      where
+        back : (y : Flat × Bool) → Follows here y → (x : ℕ × Bool) × HasSort sorts x.0 symbol.result × ((Value k [] x.0, x.1) ≡ y)
+        back y f =
+            let w = value_of r y.0 y.1 f.0 f.1 in
+            let e = no_variables false w.vs w.applied none in
+            ((w.v, y.1), w.value, ap (λ (x : Flat). (x, y.1)) (sym (w.is ∙ ap (λ (vs : List ℕ). Value k vs w.v) e)))
+
+    -- a function with arguments
+
+    abbrev as_value : List ℕ → Read (ℕ × Bool) → Read (Flat × Bool)
+    as_value vs r = r >>= λ y. Ok ((Value k vs y.0.0, y.0.1), y.1)
+
+    abbrev unequal_at : List ℕ → Read (ℕ × Bool)
+    unequal_at bytes = literal_at (codes " != V") bytes >>= last_variable_at sorts symbol.result
+
+    value_end : (vs : List ℕ) (r : Read (ℕ × ℕ)) → (r >>= λ v. Ok ((Value k vs v.0.0, eqb v.0.1 1), v.1)) ≡ as_value vs (ended_value r)
+    value_end vs (Ok v) = refl
+    value_end vs (Err left) = refl
+
+    abbrev value_after : List ℕ → Result (List ℕ) ℕ → Read (Flat × Bool)
+    value_after vs r = r >>= λ u. variable_at sorts Denial symbol.result u >>= λ v. Ok ((Value k vs v.0.0, eqb v.0.1 1), v.1)
+
+    value_unequal : (vs : List ℕ) (r : Result (List ℕ) ℕ) → value_after vs r ≡ as_value vs (r >>= last_variable_at sorts symbol.result)
+    value_unequal vs (Ok u) = value_end vs (variable_at sorts Denial symbol.result u)
+    value_unequal vs (Err left) = refl
+
+    value_by : (r : Read (List ℕ)) → (r >>= λ vs. value_after vs.0 (literal_at (codes " != V") vs.1)) ≡ (r >>= λ vs. as_value vs.0 (unequal_at vs.1))
+    value_by (Ok vs) = value_unequal vs.0 (literal_at (codes " != V") vs.1)
+    value_by (Err left) = refl
+
+    exact_value : 0 < length symbol.args → symbol.relation ≡ false → last ≡ false → Exact (Follows here) rest (value_at sig sorts k)
+    unfolding value_at
+    exact_value some r single_last =
+        exact_pair (λ vs. AllZip (HasSort sorts) vs symbol.args) arguments_text (arguments_at sorts symbol.args)
+        (λ vs y. HasSort sorts y.0 symbol.result) (λ vs y. codes " != V" ++ (decimal y.0 ++ end_text y.1)) (λ vs. unequal_at)
+        (Follows here) rest (value_at sig sorts k) (λ vs y. (Value k vs y.0, y.1))
+        (λ bytes. value_by (arguments_at sorts symbol.args bytes)) (λ vs y h t. fits vs y (as_many sorts vs symbol.args h) h t)
+        (λ y f. let w = value_of r y.0 y.1 f.0 f.1 in (w.vs, (w.v, y.1), w.applied.arguments, w.value, ap (λ (x : Flat). (x, y.1)) (sym w.is)))
+        (exact_wanted sorts symbol.args few some arguments_have)
+        (λ vs h. exact_after (λ (y : ℕ × Bool). HasSort sorts y.0 symbol.result) (λ y. decimal y.0 ++ end_text y.1) (last_variable_at sorts symbol.result) (codes " != V") (exact_last_variable sorts symbol.result (value_has r).0 few (value_has r).1))
+      where
+        fits : (vs : List ℕ) (y : ℕ × Bool) → length vs ≡ length symbol.args → AllZip (HasSort sorts) vs symbol.args → HasSort sorts y.0 symbol.result → Follows here (Value k vs y.0, y.1) × (rest (Value k vs y.0, y.1) ≡ arguments_text vs ++ (codes " != V" ++ (decimal y.0 ++ end_text y.1)))
+        fits [] y e h t = absurd (omega (arith, e, some))
+        fits (v ∷ vs) y e h t = (((record { symbol = g.within; kind = r; arguments = h }, t), value_head (unsigned r) single_last), refl)
+
+    -- any symbol
+
+    abbrev chosen_by : Bool → Bool → List ℕ → Read (Flat × Bool)
+    chosen_by a b bytes =
+        cond a (cond b (fact_at sig sorts sign k bytes) (value_at sig sorts k bytes)) (cond b (Ok ((Fact sign k [], last), bytes)) (constant_at sig sorts k bytes))
+
+    chosen_is : (a b : Bool) → has_arguments symbol ≡ a → symbol.relation ≡ b → (bytes : List ℕ) → applied_at sig sorts sign k last bytes ≡ chosen_by a b bytes
+    unfolding applied_at
+    chosen_is a b h r bytes = ap (λ (c : Bool). chosen_by c symbol.relation bytes) h ∙ ap (λ (c : Bool). chosen_by a c bytes) r
+
+    exact_by : (a b : Bool) → has_arguments symbol ≡ a → symbol.relation ≡ b → Exact (Follows here) rest (chosen_by a b)
+    exact_by true true h r = exact_fact (some_has symbol.args h) r (single true true h r refl)
+    exact_by true false h r = exact_value (some_has symbol.args h) r (single true false h r refl)
+    exact_by false true h r = exact_plain (none_has symbol.args h) r
+    exact_by false false h r = exact_constant (none_has symbol.args h) r (single false false h r refl)
+
+    exact_symbol : Exact (Follows here) rest (applied_at sig sorts sign k last)
+    exact_symbol =
+        exact_words (Follows here) (Follows here) rest rest (chosen_by (has_arguments symbol) symbol.relation) (applied_at sig sorts sign k last)
+        (chosen_is (has_arguments symbol) symbol.relation refl refl) (λ y f. (f, refl)) (λ y f. f)
+        (exact_by (has_arguments symbol) symbol.relation refl refl)
+
+  -- ---- any denial
+
+  pub exact_denied : (h : Head) → IsDenialHead sig names sorts h → Exact (Follows h) rest (denied_at sig sorts h)
+  exact_denied Forall d = absurd d
+  exact_denied Nothing d = absurd d
+  exact_denied (Equal i) d = exact_differ i d
+  exact_denied (Applied sign k last) d = exact_symbol sign k last d
+
+  pub exact_denial : (lit : Flat) → IsFlat sig sorts lit → Exact (λ (y : Flat × Bool). IsFlat sig sorts y.0) (denial_line names) (denial_at sig names sorts)
+  unfolding denial_at
+  exact_denial lit flat =
+      exact_then (Among (heads sig sorts)) heading (choose heading (heads sig sorts)) Follows (λ h. rest) (denied_at sig sorts)
+      (λ (y : Flat × Bool). IsFlat sig sorts y.0) (denial_line names) (denial_at sig names sorts) (λ bytes. refl)
+      (λ h y a f. (f.0, line_words y.0 y.1 f.0 ∙ ap (λ (x : Head). heading x ++ rest y) f.1))
+      (λ y h. (head_of y.0 y.1, head_in y.0 y.1 h, (h, refl)))
+      (exact_among heading (heads sig sorts) (head_of lit false) (head_in lit false flat) (heads_apart sig names named sorts few (heads sig sorts) (heads_good sig names sorts)))
+      (λ h a. exact_denied h (from_heads sig names sorts h a))

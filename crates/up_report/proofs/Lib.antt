@@ -1,7 +1,10 @@
 pub mod ClauseArguments
 pub mod ClauseBinders
+pub mod ClauseBodies
 pub mod ClauseChains
+pub mod ClauseExact
 pub mod ClauseHeads
+pub mod ClauseLiterals
 pub mod ClauseLoops
 pub mod ClauseOptions
 pub mod ClauseSorts
