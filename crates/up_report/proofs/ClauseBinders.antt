@@ -132,8 +132,7 @@ module _ (sig : Sig) (names : Names) (named : CanName sig names) (some : 0 < sig
   joins_by k s zero h l =
       ((h, λ (n : true ≡ false). absurd cc), ap (λ (t : List ℕ). sort_name s ++ t) (sym (first_text (ltb (k + 1) (2 ^ 32 - 1)))) ∙ sym (append-nil (sort_name s ++ text_at (texts (sort_ending k)) 0)))
   joins_by k s (suc zero) h l =
-      let t = second_text (ltb (k + 1) (2 ^ 32 - 1)) l in
-      (
+      let t = second_text (ltb (k + 1) (2 ^ 32 - 1)) l in (
         (h, λ n. ltb-true (k + 1) (2 ^ 32 - 1) t.0),
         sym (append_assoc (sort_name s) (codes ", V") (decimal (k + 1) ++ codes ":")) ∙ ap (λ (u : List ℕ). (sort_name s ++ u) ++ (decimal (k + 1) ++ codes ":")) (sym t.1),
       )

@@ -178,9 +178,9 @@ module _ (sig : Sig) (names : Names) (named : CanName sig names) (sorts : List �
   line_joins h (lit ∷ l ∷ ls) f = (
     (f.0.0, flats_of 0 (l ∷ ls) f.1),
     lits_words 0 lit (l ∷ ls)
-    ∙ ap (λ (t : List ℕ). denial_line names (lit, false) ++ t) (sym (lits_words 1 l ls) ∙ lits_words 0 l ls)
-    ∙ ap (λ (t : List ℕ). t ++ chained (l ∷ ls)) (headed_line h lit false f.0)
-    ∙ append_assoc (heading h) (rest_text lit false) (chained (l ∷ ls)),
+        ∙ ap (λ (t : List ℕ). denial_line names (lit, false) ++ t) (sym (lits_words 1 l ls) ∙ lits_words 0 l ls)
+        ∙ ap (λ (t : List ℕ). t ++ chained (l ∷ ls)) (headed_line h lit false f.0)
+        ∙ append_assoc (heading h) (rest_text lit false) (chained (l ∷ ls)),
   )
 
   pub body_joins : (h : Head) (lits : List Flat) → BodyThen h lits → IsBody lits × (body_line names lits ≡ heading h ++ body_rest h lits)

@@ -196,8 +196,7 @@ module _ (sig : Sig) (names : Names) (named : CanName sig names) where
     kept_by level kept (t ∷ ts) e s =
         let all = recursion_from_All (λ n. n < sig.sorts) (t ∷ ts) (subst (λ (ss : List ℕ). All (λ n. n < sig.sorts) ss) e s.cube.sorts) in
         let flat = recursion_from_All (IsFlat sig (t ∷ ts)) kept.cube.lits (subst (λ (ss : List ℕ). All (IsFlat sig ss) kept.cube.lits) e s.cube.lits) in
-        let few : length (t ∷ ts) < 2 ^ 32 = subst (λ (ss : List ℕ). length ss < 2 ^ 32) e s.few in
-        (
+        let few : length (t ∷ ts) < 2 ^ 32 = subst (λ (ss : List ℕ). length ss < 2 ^ 32) e s.few in (
           Forall,
           inl refl,
           record {
@@ -251,7 +250,7 @@ module _ (sig : Sig) (names : Names) (named : CanName sig names) where
   joins least most level kept h s = (
     record { level = subst (IsBetween least most) (sym s.level_is) h; cube = s.cube; few = s.few },
     line_words (decimal kept.level ++ codes " ") (binders_text names kept.cube.sorts) (denials_text names kept.cube.lits) (codes "\n")
-    ∙ ap (λ (l : ℕ). (decimal l ++ codes " ") ++ start_text kept) s.level_is,
+        ∙ ap (λ (l : ℕ). (decimal l ++ codes " ") ++ start_text kept) s.level_is,
   )
 
   pub exact_clause : (least most : ℕ) → least ≤ most → most < 2 ^ 64 → Exact (HasClause sig least most) (clause_text names) (clause_at sig names least most)

@@ -238,7 +238,7 @@ module _ (sig : Sig) (names : Names) where
     words_in : (x y : Head) (p q : List ℕ) → IsFormed x → IsFormed y → sign_of x ≡ sign_of y → (word_of x ++ end_of x) ++ p ≡ (word_of y ++ end_of y) ++ q → AreParts x y p q
     words_in x y p q f g sign e =
         let s = split_words (word_of x) (word_of y) (end_of x ++ p) (end_of y ++ q) f.high g.high (ends_append (end_of x) p f.ends) (ends_append (end_of y) q g.ends)
-            (sym (append_assoc (word_of x) (end_of x) p) ∙ e ∙ append_assoc (word_of y) (end_of y) q) in
+        (sym (append_assoc (word_of x) (end_of x) p) ∙ e ∙ append_assoc (word_of y) (end_of y) q) in
         record { sign = sign; word = s.0; end = s.1 }
 
     -- no word begins with `!`

@@ -82,4 +82,4 @@ module _ (sorts : List ℕ) (ending : Ending) (s : ℕ) where
       let among : Among options (v, e) = to_option (v, e) (record { variable = record { within = within; sort = is }; end = omega (arith, (ranged 0 (length (texts ending)) e t.0).1) }) in
       variable_is bytes
       ∙ choose_finds (ended_variable ending) options bytes (v, e) rest t.1
-          (λ y q k l. variables_apart few y (v, e) k among q rest (sym (literal_found (ended_variable ending y) bytes q l) ∙ literal_found (ended_variable ending (v, e)) bytes rest t.1)) among
+      (λ y q k l. variables_apart few y (v, e) k among q rest (sym (literal_found (ended_variable ending y) bytes q l) ∙ literal_found (ended_variable ending (v, e)) bytes rest t.1)) among

@@ -146,6 +146,6 @@ pub same_ends : (ending : Ending) (v w p q : List ℕ) (e f : ℕ) → AreHigh v
     → (v ++ text_at (texts ending) e) ++ p ≡ (w ++ text_at (texts ending) f) ++ q → (v ≡ w) × (e ≡ f)
 same_ends ending v w p q e f a b h k is =
     let s = split_words v w (text_at (texts ending) e ++ p) (text_at (texts ending) f ++ q) a b
-        (ends_append (text_at (texts ending) e) p (text_ends ending e h)) (ends_append (text_at (texts ending) f) q (text_ends ending f k))
-        (sym (append_assoc v (text_at (texts ending) e) p) ∙ is ∙ append_assoc w (text_at (texts ending) f) q) in
+    (ends_append (text_at (texts ending) e) p (text_ends ending e h)) (ends_append (text_at (texts ending) f) q (text_ends ending f k))
+    (sym (append_assoc v (text_at (texts ending) e) p) ∙ is ∙ append_assoc w (text_at (texts ending) f) q) in
     (s.0, texts_apart (texts ending) (are_apart_texts ending) e f h k p q s.1)

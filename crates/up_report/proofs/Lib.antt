@@ -10,3 +10,4 @@ pub mod ClauseOptions
 pub mod ClauseSorts
 pub mod ClauseVariables
 pub mod ClauseWords
+pub mod ClauseWriting
