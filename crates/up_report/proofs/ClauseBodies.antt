@@ -1,11 +1,11 @@
 -- All denials of a clause are read exactly.
-use Rattle.std.proofs.Common.{◌≡◌, ℕ, zero, suc, ◌+◌, ◌-◌, ◌^◌, ◌<◌, ◌≤◌, inl, inr, Bool, true, false, cond, List, [], ◌∷◌, ◌++◌, length, map, flat_map, codes, Ok, Err, refl, sym, ap, subst, ◌∙◌, append_assoc, length-append, arith}
+use Rattle.std.proofs.Common.{◌≡◌, ℕ, ◌+◌, ◌^◌, ◌<◌, inl, inr, Bool, true, false, cond, List, [], ◌∷◌, ◌++◌, length, map, flat_map, codes, Ok, refl, sym, ap, subst, ◌∙◌, append_assoc, length-append, arith}
 use Rattle.std.specs.Prelude.{⊤}
 use Rattle.std.specs.List.{AllByRecursion}
 use Rattle.std.proofs.lemmas.List.{append-nil}
 use Rattle.fo_core.specs.declared.signature.Sig.{Sig}
 use Rattle.fo_core.specs.declared.names.Names.{Names}
-use Rattle.fo_text.specs.Reading.{Read, ◌>>=◌, choose}
+use Rattle.fo_text.specs.Reading.{Read, choose}
 use Rattle.fo_text.proofs.Exact.{Exact, exact_done, exact_map, exact_then}
 use Rattle.fo_text.proofs.Choices.{Among, exact_choose}
 use Rattle.up_diagram.specs.declared.cube.Flat.{Flat}

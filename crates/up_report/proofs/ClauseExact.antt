@@ -1,6 +1,5 @@
 -- A clause is read exactly.
-use Rattle.std.proofs.Common.{◌≡◌, ℕ, zero, suc, ◌+◌, ◌-◌, ◌^◌, ◌<◌, ◌≤◌, inl, inr, Bool, true, false, cond, eqb, List, [], ◌∷◌, ◌++◌, length, codes, decimal, Ok, Err, refl, sym, ap, subst, ◌∙◌, append_assoc, arith}
-use Rattle.std.specs.Prelude.{⊤}
+use Rattle.std.proofs.Common.{◌≡◌, ℕ, ◌^◌, ◌<◌, ◌≤◌, inl, inr, false, List, [], ◌∷◌, ◌++◌, length, codes, decimal, refl, sym, ap, subst, ◌∙◌, append_assoc, arith}
 use Rattle.std.specs.List.{All, AllByRecursion}
 use Rattle.std.proofs.lemmas.Bool.{cases_lt, eq-eqb, ne_eqb}
 use Rattle.std.proofs.lemmas.Fmt.{decimal_digit}
@@ -17,7 +16,7 @@ use Rattle.up_diagram.specs.Cubes.{IsFlat, IsCube}
 use Rattle.up_claims.specs.declared.verdict.Kept.{Kept}
 use Rattle.up_report.specs.declared.clause_heads.Head.{Head}
 use Rattle.up_report.specs.declared.clause_heads.Head.TheVariants.{Forall, Nothing, Equal, Applied}
-use Rattle.up_report.specs.ClauseTexts.{CanName, joined, variable_text, binder_texts, binders_text, denials_text, clause_text, HasClause}
+use Rattle.up_report.specs.ClauseTexts.{CanName, joined, binder_texts, binders_text, denials_text, clause_text, HasClause}
 use Rattle.up_report.specs.ClauseReading.{heads, head_text, first_heads, is_forall, body_from, body_at, binder_at, chain, made, bound_at, free_from, kept_from, clause_at}
 use Rattle.up_report.proofs.ClauseHeads.{heads_apart, body_good, first_good, first_none, first_some}
 use Rattle.up_report.proofs.ClauseBinders.{BindersFit, binders_chain, exact_binders, few_sorts, all_sorts, binders_from, binder_words}

@@ -1,11 +1,10 @@
 -- Words of a clause, and what ends them, can't be mistaken for one another.
-use Rattle.std.proofs.Common.{◌≡◌, ℕ, zero, suc, ◌+◌, ◌-◌, ◌%◌, ◌/◌, ◌^◌, ◌<◌, ◌≤◌, ◌⊎◌, inl, inr, Bool, true, false, cond, eqb, List, [], ◌∷◌, ◌++◌, length, get_or, map, flat_map, codes, decimal, Result, Ok, Err, refl, sym, ap, subst, ◌∙◌, append_assoc, arith}
-use Rattle.std.specs.List.{AllByRecursion, range_with_len}
-use Rattle.std.proofs.lemmas.Bool.{eq-eqb, ne_eqb, eqb-true}
-use Rattle.std.proofs.lemmas.Fmt.{decimal_digit, decimal_step, decimal_by_steps}
+use Rattle.std.proofs.Common.{◌≡◌, ℕ, zero, suc, ◌+◌, ◌-◌, ◌%◌, ◌^◌, ◌<◌, ◌≤◌, inl, inr, true, List, [], ◌∷◌, ◌++◌, length, decimal, refl, sym, ap, ◌∙◌, append_assoc, arith}
+use Rattle.std.specs.List.{AllByRecursion}
+use Rattle.std.proofs.lemmas.Fmt.{decimal_by_steps}
 use Rattle.std.proofs.lemmas.List.Elements.{recursion_from_All}
-use Rattle.fo_core.specs.Named.{BeginsWord, ContinuesWord, IsWord, IsName}
-use Rattle.fo_text.specs.Reading.{Read, number_at}
+use Rattle.fo_core.specs.Named.{BeginsWord, ContinuesWord, IsWord}
+use Rattle.fo_text.specs.Reading.{number_at}
 use Rattle.fo_text.proofs.Exact.{ok_is}
 use Rattle.fo_text.proofs.Numbers.{exact_number}
 use Rattle.fo_text.proofs.Choices.{are_apart, text_at, texts_apart}
