@@ -1,0 +1,2 @@
+pub mod FirstEvent
+pub mod OneCourse

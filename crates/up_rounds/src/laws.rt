@@ -1,0 +1,26 @@
+//! What holds of the histories that rounds make, each law the contract of a function that does
+//! nothing.
+
+ghost use Rattle.std.specs.Prelude.{◌≡◌, List, ◌∷◌};
+ghost use Rattle.fo_core.specs.declared.system.System.{System};
+ghost use Rattle.fo_core.specs.Sorted.{IsSystem};
+ghost use Rattle.up_machine.specs.declared.event.Event.{Event};
+ghost use Rattle.up_machine.specs.declared.event.Event.TheVariants.{Take};
+ghost use Rattle.up_machine.specs.declared.job.Job.TheVariants.{Look};
+ghost use Rattle.up_machine.specs.declared.limits.Limits.{Limits};
+ghost use Rattle.up_machine.specs.Ranges.{AreInRange};
+ghost use Rattle.up_machine.specs.Rounds.{Rounds};
+ghost use Rattle.up_rounds.specs.Courses.{IsCourse};
+
+/// Rounds make at most one history: two runs of one system in the same limits tell the same events.
+pub fn rounds_make_one_history()
+    ensures { (sys : System) (limits : Limits) (h k : List Event) →
+        IsSystem sys → IsCourse sys limits h → IsCourse sys limits k → h ≡ k }
+{}
+
+/// In limits in range the first event of rounds is that seat 0 takes the look.
+pub fn rounds_begin_with_a_look()
+    ensures { (sys : System) (limits : Limits) (history : List Event) →
+        AreInRange limits → Rounds sys limits history →
+        (rest : List Event) × (history ≡ Take 0 Look ∷ rest) }
+{}
