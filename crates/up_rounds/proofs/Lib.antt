@@ -1,2 +1,4 @@
 pub mod FirstEvent
+pub mod Joining
 pub mod OneCourse
+pub mod Parting

@@ -121,7 +121,7 @@ module _ (sys : System) (limits : Limits) where
     over : IsDue sys limits m T.Ended
     over = inl (end, ended)
 
-    no_take : (seat : ℕ) (e : Event) → ¬ Takes sys limits m seat e
+    pub no_take : (seat : ℕ) (e : Event) → ¬ Takes sys limits m seat e
     no_take seat e a = differ_kind _ _ (due_one sys limits m (T.Job a.job) T.Ended a.due over) (λ x. omega (arith, x))
 
     no_settling : (e : Event) → ¬ Settles sys limits m e
@@ -132,10 +132,10 @@ module _ (sys : System) (limits : Limits) where
     neither rule others a b e (inl h) = a e h
     neither rule others a b e (inr h) = b e h.1
 
-    no_begin : (e : Event) → ¬ Begins sys limits m e
+    pub no_begin : (e : Event) → ¬ Begins sys limits m e
     no_begin = neither _ _ no_settling (neither _ _ (λ e a. none_is_some end (sym a.2.not_ended ∙ ended)) (no_take 0))
 
-    no_going : (seat : ℕ) (e : Event) → ¬ GoesOnAt sys limits m seat e
+    pub no_going : (seat : ℕ) (e : Event) → ¬ GoesOnAt sys limits m seat e
     no_going seat = neither _ _ (λ e a. none_is_some end (sym a.legal.not_ended ∙ ended)) no_begin
 
     no_next : (last e : Event) → ¬ IsNext sys limits last m e

@@ -9,8 +9,9 @@ ghost use Rattle.up_machine.specs.declared.event.Event.TheVariants.{Take};
 ghost use Rattle.up_machine.specs.declared.job.Job.TheVariants.{Look};
 ghost use Rattle.up_machine.specs.declared.limits.Limits.{Limits};
 ghost use Rattle.up_machine.specs.Ranges.{AreInRange};
-ghost use Rattle.up_machine.specs.Rounds.{Rounds};
+ghost use Rattle.up_machine.specs.Rounds.{IsClosed, Rounds};
 ghost use Rattle.up_rounds.specs.Courses.{IsCourse};
+ghost use Rattle.up_rounds.specs.OneRound.{AreRounds};
 
 /// Rounds make at most one history: two runs of one system in the same limits tell the same events.
 pub fn rounds_make_one_history()
@@ -23,4 +24,12 @@ pub fn rounds_begin_with_a_look()
     ensures { (sys : System) (limits : Limits) (history : List Event) →
         AreInRange limits → Rounds sys limits history →
         (rest : List Event) × (history ≡ Take 0 Look ∷ rest) }
+{}
+
+/// Whole rounds up to an end are the history of the rounds, and that history is whole rounds.
+pub fn rounds_come_one_after_another()
+    ensures joined { (sys : System) (limits : Limits) (history : List Event) →
+        AreRounds sys limits history → IsClosed sys limits history → Rounds sys limits history }
+    ensures parted { (sys : System) (limits : Limits) (history : List Event) →
+        Rounds sys limits history → AreRounds sys limits history }
 {}
