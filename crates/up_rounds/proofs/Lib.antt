@@ -1,3 +1,4 @@
+pub mod AlikeLimits
 pub mod FirstEvent
 pub mod Joining
 pub mod OneCourse

@@ -1,5 +1,5 @@
 -- The whole history of a run by rounds.
-use Rattle.std.specs.Prelude.{List}
+use Rattle.std.specs.Prelude.{◌≡◌, List}
 use Rattle.fo_core.specs.declared.system.System.{System}
 use Rattle.up_machine.specs.declared.event.Event.{Event}
 use Rattle.up_machine.specs.declared.limits.Limits.{Limits}
@@ -10,3 +10,10 @@ use Rattle.up_machine.specs.Rounds.{Rounds}
 pub record IsCourse (sys : System) (limits : Limits) (history : List Event) : Type 0 where
   pub legal : Legal sys limits history
   pub rounds : Rounds sys limits history
+
+-- the limits are the same but for how many workers share the machine
+pub record AreAlike (a b : Limits) : Type 0 where
+  pub batch : a.batch ≡ b.batch
+  pub frames : a.frames ≡ b.frames
+  pub steps : a.steps ≡ b.steps
+  pub weight : a.weight ≡ b.weight

@@ -10,13 +10,20 @@ ghost use Rattle.up_machine.specs.declared.job.Job.TheVariants.{Look};
 ghost use Rattle.up_machine.specs.declared.limits.Limits.{Limits};
 ghost use Rattle.up_machine.specs.Ranges.{AreInRange};
 ghost use Rattle.up_machine.specs.Rounds.{IsClosed, Rounds};
-ghost use Rattle.up_rounds.specs.Courses.{IsCourse};
+ghost use Rattle.up_rounds.specs.Courses.{AreAlike, IsCourse};
 ghost use Rattle.up_rounds.specs.OneRound.{AreRounds};
 
 /// Rounds make at most one history: two runs of one system in the same limits tell the same events.
 pub fn rounds_make_one_history()
     ensures { (sys : System) (limits : Limits) (h k : List Event) →
         IsSystem sys → IsCourse sys limits h → IsCourse sys limits k → h ≡ k }
+{}
+
+/// How many workers share the machine changes nothing: where all other limits are the same, so is
+/// the history that rounds make.
+pub fn workers_change_no_history()
+    ensures { (sys : System) (a b : Limits) (h k : List Event) →
+        IsSystem sys → AreAlike a b → IsCourse sys a h → IsCourse sys b k → h ≡ k }
 {}
 
 /// In limits in range the first event of rounds is that seat 0 takes the look.

@@ -4,4 +4,7 @@
 
 mod laws;
 
-pub use laws::{rounds_begin_with_a_look, rounds_come_one_after_another, rounds_make_one_history};
+pub use laws::{
+    rounds_begin_with_a_look, rounds_come_one_after_another, rounds_make_one_history,
+    workers_change_no_history,
+};
