@@ -1,5 +1,5 @@
 -- Whole rounds, one after another, are the history of the rounds.
-use Rattle.std.proofs.Common.{◌≡◌, ℕ, suc, inl, inr, List, [], ◌∷◌, ◌++◌, refl, sym, ap, subst, ◌∙◌, append_assoc, append-nil}
+use Rattle.std.proofs.Common.{◌≡◌, ◌+◌, length, arith, ℕ, suc, inl, inr, List, [], ◌∷◌, ◌++◌, refl, sym, ap, subst, ◌∙◌, append_assoc, append-nil}
 use Rattle.std.specs.Prelude.{⊤}
 use Rattle.fo_core.specs.declared.system.System.{System}
 use Rattle.up_machine.specs.declared.limits.Limits.{Limits}
@@ -15,6 +15,31 @@ use Rattle.up_rounds.specs.OneRound.{AreTakes, AreReports, AreJobs, IsRest, IsRo
 use Rattle.up_rounds.proofs.OneCourse.{no_begin, no_going}
 
 module _ (sys : System) (limits : Limits) where
+  -- from this seat on, in order, up to the first that gets none or can't
+  abbrev pub AllTake : Machine → ℕ → List Event → Type 0
+  AllTake m seat [] = (e : Event) → ¬ Takes sys limits m seat e
+  AllTake m seat (e ∷ es) = Takes sys limits m seat e × AllTake (happens m e) (suc seat) es
+
+  abbrev pub AllReport : Machine → ℕ → List Event → Type 0
+  AllReport m seat [] = (e : Event) → ¬ IsReport sys limits m seat e
+  AllReport m seat (e ∷ es) = IsReport sys limits m seat e × AllReport (happens m e) (suc seat) es
+
+  pub seat_after : (seat n : ℕ) → seat + suc n ≡ suc seat + n
+  seat_after seat n = omega arith
+
+  pub from_first : (n : ℕ) → 0 + n ≡ n
+  from_first n = omega arith
+
+  all_take : (m : Machine) (seat : ℕ) (ts : List Event) → AreTakes sys limits m seat ts → ((e : Event) → ¬ Takes sys limits (run m ts) (seat + length ts) e) → AllTake m seat ts
+  all_take m seat [] h n = λ e a. n e (subst (λ k. Takes sys limits m k e) (omega arith) a)
+  all_take m seat (t ∷ ts) h n =
+      (h.0, all_take (happens m t) (suc seat) ts h.1 (λ e a. n e (subst (λ k. Takes sys limits (run (happens m t) ts) k e) (sym (seat_after seat (length ts))) a)))
+
+  all_report : (m : Machine) (seat : ℕ) (rs : List Event) → AreReports sys limits m seat rs → ((e : Event) → ¬ IsReport sys limits (run m rs) (seat + length rs) e) → AllReport m seat rs
+  all_report m seat [] h n = λ e a. n e (subst (λ k. IsReport sys limits m k e) (omega arith) a)
+  all_report m seat (r ∷ rs) h n =
+      (h.0, all_report (happens m r) (suc seat) rs h.1 (λ e a. n e (subst (λ k. IsReport sys limits (run (happens m r) rs) k e) (sym (seat_after seat (length rs))) a)))
+
   -- the first event is as the rule says, and each other comes after the one before it
   abbrev pub Starts : (Event → Type 0) → Machine → List Event → Type 0
   Starts rule m [] = ⊤
@@ -55,13 +80,13 @@ module _ (sys : System) (limits : Limits) where
   abbrev pub BeginsAt : Machine → List Event → Type 0
   BeginsAt m es = Starts (Begins sys limits m) m es
 
-  join_reports : (m : Machine) (seat : ℕ) (rs rest : List Event) → AreReports sys limits m seat rs → BeginsAt (run m rs) rest → Starts (GoesOnAt sys limits m seat) m (rs ++ rest)
+  join_reports : (m : Machine) (seat : ℕ) (rs rest : List Event) → AllReport m seat rs → BeginsAt (run m rs) rest → Starts (GoesOnAt sys limits m seat) m (rs ++ rest)
   join_reports m seat [] rest h b = starts_as (Begins sys limits m) (GoesOnAt sys limits m seat) m rest (λ e x. inr (h, x)) b
   join_reports m seat (r ∷ rs) rest h b =
       let n = happens m r in
       (inl h.0, are_next r n (rs ++ rest) (starts_as (GoesOnAt sys limits n (suc seat)) (IsNext sys limits r n) n (rs ++ rest) (λ f g. after_report m seat r f h.0 g) (join_reports n (suc seat) rs rest h.1 b)))
 
-  join_takes : (m : Machine) (seat : ℕ) (ts rs rest : List Event) → AreTakes sys limits m seat ts → AreReports sys limits (run m ts) 0 rs → BeginsAt (run (run m ts) rs) rest → Starts (ComesAfter m seat) m (ts ++ (rs ++ rest))
+  join_takes : (m : Machine) (seat : ℕ) (ts rs rest : List Event) → AllTake m seat ts → AllReport (run m ts) 0 rs → BeginsAt (run (run m ts) rs) rest → Starts (ComesAfter m seat) m (ts ++ (rs ++ rest))
   join_takes m seat [] rs rest h r b = starts_as (GoesOnAt sys limits m 0) (ComesAfter m seat) m (rs ++ rest) (λ e x. inr (h, x)) (join_reports m 0 rs rest r b)
   join_takes m seat (t ∷ ts) rs rest h r b =
       let n = happens m t in
@@ -71,7 +96,7 @@ module _ (sys : System) (limits : Limits) where
   join_jobs m seat es rest r b =
       let at_end : run m es ≡ run (run m r.takes) r.reports = ap (λ x. run m x) r.parts ∙ run-append m r.takes r.reports in
       let all : es ++ rest ≡ r.takes ++ (r.reports ++ rest) = ap (λ x. x ++ rest) r.parts ∙ append_assoc r.takes r.reports rest in
-      subst (λ xs. Starts (ComesAfter m seat) m xs) (sym all) (join_takes m seat r.takes r.reports rest r.taken r.reported (subst (λ n. BeginsAt n rest) at_end b))
+      subst (λ xs. Starts (ComesAfter m seat) m xs) (sym all) (join_takes m seat r.takes r.reports rest (all_take m seat r.takes r.taken r.no_more) (all_report (run m r.takes) 0 r.reports r.reported (λ e a. r.no_other e (subst (λ k. IsReport sys limits (run (run m r.takes) r.reports) k e) (from_first (length r.reports)) a))) (subst (λ n. BeginsAt n rest) at_end b))
 
   join_none : (m : Machine) (es rest : List Event) → es ≡ [] → BeginsAt (run m es) rest → BeginsAt m (es ++ rest)
   join_none m es rest e b = subst (λ xs. BeginsAt (run m xs) rest → BeginsAt m (xs ++ rest)) (sym e) (λ x. x) b

@@ -3,3 +3,5 @@ pub mod FirstEvent
 pub mod Joining
 pub mod OneCourse
 pub mod Parting
+pub mod Reporting
+pub mod Resting

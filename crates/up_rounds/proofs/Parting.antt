@@ -10,8 +10,8 @@ use Rattle.up_machine.specs.Replay.{happens, run, replay}
 use Rattle.up_machine.specs.Rounds.{IsReport, Takes, GoesOnAt, IsNext, AreNext, Rounds}
 use Rattle.up_machine.proofs.Histories.{run-append}
 use Rattle.up_machine.proofs.Lists.{none_is_some}
-use Rattle.up_rounds.specs.OneRound.{AreReports, AreJobs, IsRest, AreRounds, none, one_more}
-use Rattle.up_rounds.proofs.Joining.{Starts, starts_as, ComesAfter, BeginsAt, IsOpening, opening}
+use Rattle.up_rounds.specs.OneRound.{AreTakes, AreReports, AreJobs, IsRest, AreRounds, none, one_more}
+use Rattle.up_rounds.proofs.Joining.{AllTake, AllReport, seat_after, from_first, Starts, starts_as, ComesAfter, BeginsAt, IsOpening, opening}
 use Rattle.up_rounds.proofs.OneCourse.{no_take}
 
 module _ (sys : System) (limits : Limits) where
@@ -61,15 +61,50 @@ module _ (sys : System) (limits : Limits) where
     begins = p.begins;
   }
 
-  part_reports : (m : Machine) (seat : ℕ) (es : List Event) → Starts sys limits (GoesOnAt sys limits m seat) m es → EndsAt m es → IsParted (AreReports sys limits m seat) m es
+  part_reports : (m : Machine) (seat : ℕ) (es : List Event) → Starts sys limits (GoesOnAt sys limits m seat) m es → EndsAt m es → IsParted (AllReport sys limits m seat) m es
   part_reports m seat [] h c = record { first = []; rest = []; parts = refl; are = λ e a. none_is_some c.0 (sym a.legal.not_ended ∙ c.1); begins = tt }
   part_reports m seat (e ∷ es) (inl r, h) c =
       let n = happens m e in
-      longer (AreReports sys limits n (suc seat)) (AreReports sys limits m seat) m e es (λ first a. (r, a))
+      longer (AllReport sys limits n (suc seat)) (AllReport sys limits m seat) m e es (λ first a. (r, a))
       (part_reports n (suc seat) es (starts_as sys limits (IsNext sys limits e n) (GoesOnAt sys limits n (suc seat)) n es (λ f x. after_report m seat e f r x) (starts_next e n es h)) c)
   part_reports m seat (e ∷ es) (inr r, h) c = record { first = []; rest = e ∷ es; parts = refl; are = r.0; begins = (r.1, h) }
 
-  part_jobs : (m : Machine) (seat : ℕ) (es : List Event) → Starts sys limits (ComesAfter sys limits m seat) m es → EndsAt m es → IsParted (AreJobs sys limits m seat) m es
+  -- the parts of a round of jobs, each up to the first seat that gets none or can't
+  record AllJobs (m : Machine) (seat : ℕ) (events : List Event) : Type 0 where
+    takes : List Event
+    reports : List Event
+    parts : events ≡ takes ++ reports
+    taken : AllTake sys limits m seat takes
+    reported : AllReport sys limits (run m takes) 0 reports
+
+  are_takes : (m : Machine) (seat : ℕ) (ts : List Event) → AllTake sys limits m seat ts → AreTakes sys limits m seat ts
+  are_takes m seat [] h = tt
+  are_takes m seat (t ∷ ts) h = (h.0, are_takes (happens m t) (suc seat) ts h.1)
+
+  no_take_more : (m : Machine) (seat : ℕ) (ts : List Event) → AllTake sys limits m seat ts → (e : Event) → ¬ Takes sys limits (run m ts) (seat + length ts) e
+  no_take_more m seat [] h e a = h e (subst (λ k. Takes sys limits m k e) (omega arith) a)
+  no_take_more m seat (t ∷ ts) h e a = no_take_more (happens m t) (suc seat) ts h.1 e (subst (λ k. Takes sys limits (run (happens m t) ts) k e) (seat_after sys limits seat (length ts)) a)
+
+  are_reports : (m : Machine) (seat : ℕ) (rs : List Event) → AllReport sys limits m seat rs → AreReports sys limits m seat rs
+  are_reports m seat [] h = tt
+  are_reports m seat (r ∷ rs) h = (h.0, are_reports (happens m r) (suc seat) rs h.1)
+
+  no_report_more : (m : Machine) (seat : ℕ) (rs : List Event) → AllReport sys limits m seat rs → (e : Event) → ¬ IsReport sys limits (run m rs) (seat + length rs) e
+  no_report_more m seat [] h e a = h e (subst (λ k. IsReport sys limits m k e) (omega arith) a)
+  no_report_more m seat (r ∷ rs) h e a = no_report_more (happens m r) (suc seat) rs h.1 e (subst (λ k. IsReport sys limits (run (happens m r) rs) k e) (seat_after sys limits seat (length rs)) a)
+
+  jobs_of : (m : Machine) (seat : ℕ) (es : List Event) → AllJobs m seat es → AreJobs sys limits m seat es
+  jobs_of m seat es j = record {
+    takes = j.takes;
+    reports = j.reports;
+    parts = j.parts;
+    taken = are_takes m seat j.takes j.taken;
+    no_more = no_take_more m seat j.takes j.taken;
+    reported = are_reports (run m j.takes) 0 j.reports j.reported;
+    no_other = λ e a. no_report_more (run m j.takes) 0 j.reports j.reported e (subst (λ k. IsReport sys limits (run (run m j.takes) j.reports) k e) (sym (from_first sys limits (length j.reports))) a);
+  }
+
+  part_jobs : (m : Machine) (seat : ℕ) (es : List Event) → Starts sys limits (ComesAfter sys limits m seat) m es → EndsAt m es → IsParted (AllJobs m seat) m es
   part_jobs m seat [] h c = record {
     first = [];
     rest = [];
@@ -79,7 +114,7 @@ module _ (sys : System) (limits : Limits) where
   }
   part_jobs m seat (e ∷ es) (inl t, h) c =
       let n = happens m e in
-      longer (AreJobs sys limits n (suc seat)) (AreJobs sys limits m seat) m e es (λ first a. record { takes = e ∷ a.takes; reports = a.reports; parts = ap (λ xs. e ∷ xs) a.parts; taken = (t, a.taken); reported = a.reported })
+      longer (AllJobs n (suc seat)) (AllJobs m seat) m e es (λ first a. record { takes = e ∷ a.takes; reports = a.reports; parts = ap (λ xs. e ∷ xs) a.parts; taken = (t, a.taken); reported = a.reported })
       (part_jobs n (suc seat) es (starts_as sys limits (IsNext sys limits e n) (ComesAfter sys limits n (suc seat)) n es (λ f x. after_take m n seat e f t x) (starts_next e n es h)) c)
   part_jobs m seat (e ∷ es) (inr r, h) c =
       let p = part_reports m 0 (e ∷ es) (r.1, h) c in
@@ -94,7 +129,9 @@ module _ (sys : System) (limits : Limits) where
   ended_alone m w x (e ∷ es) h = absurd h.0
 
   part_rest : (m : Machine) (e : Event) (es : List Event) → IsOpening sys limits e → AreNext sys limits e m es → EndsAt m es → IsParted (IsRest sys limits e m) m es
-  part_rest m (E.Take w job) es o h c = part_jobs m (suc w) es (starts_next (E.Take w job) m es h) c
+  part_rest m (E.Take w job) es o h c =
+      let p = part_jobs m (suc w) es (starts_next (E.Take w job) m es h) c in
+      record { first = p.first; rest = p.rest; parts = p.parts; are = jobs_of m (suc w) p.first p.are; begins = p.begins }
   part_rest m (E.Advance w) es o h c = part_none m es (starts_next (E.Advance w) m es h)
   part_rest m (E.Retire w gone by) es o h c = part_none m es (starts_next (E.Retire w gone by) m es h)
   part_rest m (E.Close w x) es o h c = ended_alone m w x es h

@@ -3,8 +3,13 @@
 #![tactic(auto)]
 
 mod laws;
+mod rest_laws;
 
 pub use laws::{
     rounds_begin_with_a_look, rounds_come_one_after_another, rounds_make_one_history,
     workers_change_no_history,
+};
+pub use rest_laws::{
+    nobody_waits_at_rest, only_seats_with_jobs_report, reports_cost_nothing_once_steps_are_spent,
+    rest_is_kept, takes_of_a_round_are_legal,
 };
