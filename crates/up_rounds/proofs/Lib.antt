@@ -1,3 +1,4 @@
+pub mod AfterJobs
 pub mod AlikeLimits
 pub mod FirstEvent
 pub mod Joining

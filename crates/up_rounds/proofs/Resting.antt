@@ -36,6 +36,16 @@ rest_advance limits m w r = record { free = r.free; jobs = by r.jobs }
 pub rest_retire : (limits : Limits) (m : Machine) (w gone by : ℕ) → IsAtRest limits m → IsAtRest limits (happens m (E.Retire w gone by))
 rest_retire limits m w gone by r = record { free = r.free; jobs = r.jobs }
 
+-- after its take a trace is out
+pub trace_out : (m : Machine) (seat k : ℕ) → IsFirstRooted m k → TraceIsOut (happens m (E.Take seat (J.Trace k)))
+trace_out m seat k rooted =
+    let given = given_trace m.frontier k rooted.found in
+    let held : Held = record { worker = seat; given = given } in
+    let found : given_for m (J.Trace k) ≡ Some given = ap (option_map (given_trace m.frontier k)) rooted.there in
+    let jobs : (happens m (E.Take seat (J.Trace k))).jobs ≡ m.jobs ++ held ∷ [] = ap (λ g. jobs_after (E.Take seat (J.Trace k)) g m.jobs) found in
+    let there : slice_get (happens m (E.Take seat (J.Trace k))).jobs (length m.jobs) ≡ Some held = ap (λ js. slice_get js (length m.jobs)) jobs ∙ get-last m.jobs held in
+    any-of_place (λ (h : Held). IsTrace (job_of h.given)) (happens m (E.Take seat (J.Trace k))).jobs (length m.jobs) held there tt
+
 module _ (sys : System) (limits : Limits) where
   -- once the steps are spent
   module _ (m : Machine) (spent : limits.steps ≤ m.productive) where
@@ -66,17 +76,11 @@ module _ (sys : System) (limits : Limits) where
     trace_due job (inr (a, inr (b, inr (c, inl h)))) = absurd h
     trace_due job (inr (a, inr (b, inr (c, inr (d, h))))) = absurd (d (T.Finish S.Spent) spent)
 
-    -- after its take a trace is out
     taken_trace : (seat : ℕ) (t : Event) → Takes sys limits m seat t → TraceIsOut (happens m t)
     taken_trace seat t a =
         let due = trace_due a.job a.due in
-        let given = given_trace m.frontier due.obligation due.rooted.found in
-        let held : Held = record { worker = seat; given = given } in
-        let found : given_for m (J.Trace due.obligation) ≡ Some given = ap (option_map (given_trace m.frontier due.obligation)) due.rooted.there in
-        let jobs : (happens m (E.Take seat (J.Trace due.obligation))).jobs ≡ m.jobs ++ held ∷ [] = ap (λ g. jobs_after (E.Take seat (J.Trace due.obligation)) g m.jobs) found in
         let event : t ≡ E.Take seat (J.Trace due.obligation) = a.is ∙ ap (λ j. E.Take seat j) due.is in
-        let there : slice_get (happens m (E.Take seat (J.Trace due.obligation))).jobs (length m.jobs) ≡ Some held = ap (λ js. slice_get js (length m.jobs)) jobs ∙ get-last m.jobs held in
-        subst (λ x. TraceIsOut (happens m x)) (sym event) (any-of_place (λ (h : Held). IsTrace (job_of h.given)) (happens m (E.Take seat (J.Trace due.obligation))).jobs (length m.jobs) held there tt)
+        subst (λ x. TraceIsOut (happens m x)) (sym event) (trace_out m seat due.obligation due.rooted)
 
   no_second : (m : Machine) (seat next : ℕ) (t e : Event) → limits.steps ≤ m.productive → Takes sys limits m seat t → ¬ Takes sys limits (happens m t) next e
   no_second m seat next t e spent a b =

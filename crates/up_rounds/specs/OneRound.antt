@@ -30,6 +30,12 @@ pub record IsAtRest (limits : Limits) (m : Machine) : Type 0 where
   pub free : held_by m.jobs 0 ≡ None
   pub jobs : (m.jobs ≡ []) ⊎ (limits.steps ≤ m.productive) × ¬ TraceIsOut m
 
+-- In a round of jobs that has come to this machine seat 0 has reported; and so has each seat that took
+-- a job, or else the steps are spent.
+pub record HaveReported (limits : Limits) (m : Machine) (takes reports : List Event) : Type 0 where
+  pub first : 1 ≤ length reports
+  pub others : (length reports ≡ length takes) ⊎ (limits.steps ≤ m.productive)
+
 module _ (sys : System) (limits : Limits) where
   -- the seats from this one on take jobs, in order
   abbrev pub AreTakes : Machine → ℕ → List Event → Type 0

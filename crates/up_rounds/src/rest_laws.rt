@@ -15,7 +15,7 @@ ghost use Rattle.up_machine.specs.Legal.{IsLegal, Legal};
 ghost use Rattle.up_machine.specs.Machine.{Machine, start};
 ghost use Rattle.up_machine.specs.Replay.{happens, replay, run};
 ghost use Rattle.up_machine.specs.Rounds.{IsReport, Takes};
-ghost use Rattle.up_rounds.specs.OneRound.{AreTakes, IsAtRest};
+ghost use Rattle.up_rounds.specs.OneRound.{AreReports, AreTakes, HaveReported, IsAtRest};
 
 /// The machine is at rest at the start, and an event that opens a frame or retires a clause leaves it
 /// so.
@@ -25,6 +25,15 @@ pub fn rest_is_kept()
         IsAtRest limits m → IsAtRest limits (happens m (Advance w)) }
     ensures retires { (limits : Limits) (m : Machine) (w gone by : ℕ) →
         IsAtRest limits m → IsAtRest limits (happens m (Retire w gone by)) }
+{}
+
+/// Where a round of jobs begins at rest it ends so, if those report that have to.
+pub fn a_round_of_jobs_keeps_rest()
+    ensures { (sys : System) (limits : Limits) (m : Machine) (takes reports : List Event) →
+        IsAtRest limits m → AreTakes sys limits m 0 takes →
+        AreReports sys limits (run m takes) 0 reports →
+        HaveReported limits (run (run m takes) reports) takes reports →
+        IsAtRest limits (run (run m takes) reports) }
 {}
 
 /// At rest nobody is told to wait: so some round begins, till the end.
