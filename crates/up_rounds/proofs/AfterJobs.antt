@@ -126,7 +126,7 @@ pushed P seat job (Some x) js h p = λ k y e. by k y (get-push js (record { work
     by k y (inl e) = h k y e
     by k y (inr e) = subst P e.1 (p x refl)
 
-job_given : (m : Machine) (job : Job) (x : Given) → given_for m job ≡ Some x → job_of x ≡ job
+pub job_given : (m : Machine) (job : Job) (x : Given) → given_for m job ≡ Some x → job_of x ≡ job
 job_given m J.Look x e = ap job_of (sym (some_injective _ x e))
 job_given m (J.Work k) x e = let r = mapped_some (given_work m.clauses k) (slice_get m.obligations k) x e in ap job_of (sym r.2)
 job_given m (J.Push k) x e = let r = mapped_some (given_push m.clauses k) (slice_get m.clauses k) x e in ap job_of (sym r.2)

@@ -1,6 +1,7 @@
 pub mod AfterJobs
 pub mod AlikeLimits
 pub mod FirstEvent
+pub mod FirstSeat
 pub mod Joining
 pub mod OneCourse
 pub mod Parting

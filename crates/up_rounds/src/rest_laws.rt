@@ -1,12 +1,14 @@
 //! What holds within a round that begins at rest, each law the contract of a function that does
 //! nothing.
 
-ghost use Rattle.std.specs.Prelude.{◌≡◌, ◌≤◌, ◌⊎◌, ℕ, List, length};
+ghost use Rattle.std.specs.Prelude.{◌≡◌, ◌≤◌, ◌++◌, ◌⊎◌, ℕ, List, length};
 ghost use Rattle.fo_core.specs.declared.system.System.{System};
+ghost use Rattle.fo_core.specs.declared.world.World.{World};
+ghost use Rattle.fo_core.specs.Sorted.{IsSystem};
 ghost use Rattle.up_machine.specs.declared.end.End.{End};
 ghost use Rattle.up_machine.specs.declared.event.Event.{Event};
 ghost use Rattle.up_machine.specs.declared.event.Event.TheVariants.{Advance, Close, Retire, Return};
-ghost use Rattle.up_machine.specs.declared.event.Why.TheVariants.{NoMore};
+ghost use Rattle.up_machine.specs.declared.event.Why.TheVariants.{NoMore, Refuted};
 ghost use Rattle.up_machine.specs.declared.job.Task.TheVariants.{Idle};
 ghost use Rattle.up_machine.specs.declared.limits.Limits.{Limits};
 ghost use Rattle.up_machine.specs.Due.{IsDue};
@@ -62,4 +64,13 @@ pub fn reports_cost_nothing_once_steps_are_spent()
     ensures { (sys : System) (limits : Limits) (m : Machine) (seat : ℕ) (e : Event) →
         limits.steps ≤ m.productive → IsReport sys limits m seat e →
         (e ≡ Return seat NoMore) ⊎ ((end : End) × (e ≡ Close seat end)) }
+{}
+
+/// Seat 0 never reports that what it found is refuted: between its take and its report come only
+/// takes of others, which add no clause.
+pub fn seat_0_is_never_refuted()
+    ensures { (sys : System) (limits : Limits) (history takes : List Event) (p : World) (c : ℕ) →
+        IsSystem sys → Legal sys limits (history ++ takes) → IsAtRest limits (replay history) →
+        AreTakes sys limits (replay history) 0 takes →
+        ¬ IsReport sys limits (replay (history ++ takes)) 0 (Return 0 (Refuted p c)) }
 {}
