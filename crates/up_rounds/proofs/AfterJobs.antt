@@ -21,6 +21,7 @@ use Rattle.up_machine.proofs.Dues.{due_work, due_push}
 use Rattle.up_machine.proofs.Holding.{held-at, others, not_own}
 use Rattle.up_machine.proofs.Lists.{some_injective, mapped_some, Each-nil, get-append, get-push, IsPushed, get-changed, get-change, IsChanged, get-filter, two_places, any-of_place}
 use Rattle.up_rounds.specs.OneRound.{AreTakes, AreReports, IsAtRest, HaveReported}
+use Rattle.up_rounds.proofs.Reporting.{holder}
 use Rattle.up_rounds.proofs.Resting.{trace_out}
 
 -- 1. Only seat 0 takes a trace.
@@ -254,3 +255,12 @@ module _ (sys : System) (limits : Limits) (m : Machine) (ts rs : List Event) whe
       by (inl none) (inl all) = inl (empty none all)
       by (inr s) (inl all) = inr (omega (arith, s.0, spent_on m ts, spent_on (run m ts) rs), no_trace)
       by x (inr spent) = inr (spent, no_trace)
+
+-- Where all that took a job have reported, the next seat has none.
+pub none_else : (sys : System) (limits : Limits) (m : Machine) (ts rs : List Event) (e : Event) → m.jobs ≡ [] → AreTakes sys limits m 0 ts → AreReports sys limits (run m ts) 0 rs → length rs ≡ length ts → ¬ IsReport sys limits (run (run m ts) rs) (length rs) e
+none_else sys limits m ts rs e none t p all report =
+    let job = holder sys limits (run (run m ts) rs) (length rs) e report in
+    let h = held-at (run (run m ts) rs).jobs (length rs) job.given job.held in
+    let w = was_out sys limits (run m ts) 0 rs h.place h.held p h.there in
+    let below = seated sys limits m 0 ts t (subst (AreBelow 0) (sym none) (Each-nil (λ k h. h.worker < 0))) w.place h.held w.there in
+    omega (arith, below, h.worker, all)

@@ -1,19 +1,24 @@
--- One round, as what the machine does from its begin to the begin of the next. A round is one event
--- of seat 0 that settles or retires; or seats take jobs, in order, and then report, in order. That the
--- jobs of a round are solved beside each other shows in no event: each is solved as it was given at
--- its take, and a seat's report is looked at only once all seats before it have reported.
+-- One round, as what the machine does from its begin to the begin of the next. A round is one
+-- event of seat 0 that settles or retires; or seats take jobs, in order, and then report, in
+-- order. That the jobs of a round are solved beside each other shows in no event: each is solved
+-- as it was given at its take, and a seat's report is looked at only once all seats before it
+-- have reported.
 --
 -- A loop that follows the rounds keeps a history of whole rounds, and ends where it is closed. At
--- the begin of each round the machine is at rest (IsAtRest). There, till the end, some event begins a
--- round: idle isn't due. Each seat that is asked is free, so its take is legal. A seat that can't
--- report has no job, or the steps are spent.
+-- the begin of each round the machine is at rest (IsAtRest). There, till the end, some event
+-- begins a round: idle isn't due. Each seat that is asked is free, so its take is legal. A seat
+-- whose job is solved can report while steps are left, so the reports stop where no seat is left
+-- that took a job, where the run ends, or where the steps are spent and the next report would
+-- cost one.
 --
--- That rounds come to an end: seat 0 is the first to report, with no more productive events made than
--- at the begin of its round and the same clauses as at its take, so that it can pay, and what it found
--- isn't refuted. So a round of jobs makes a productive event or ends the run, or a look of seat 0 finds
--- nothing further, after which none is due until a further seed is done. A round of one event makes
--- a productive event, ends the run, or retires a live clause. Productive events are bounded, and
--- live clauses come by productive events alone.
+-- That rounds come to an end: seat 0 is the first to report, with no more productive events made
+-- than at the begin of its round and the same clauses as at its take, so that it can pay, and
+-- what it found isn't refuted. So a round of jobs makes a productive event or ends the run, or a
+-- look of seat 0 finds nothing further, after which none is due until a further seed is done. A
+-- round of one event makes a productive event, ends the run, or retires a live clause. A
+-- productive event costs a step, and makes at most one live clause. So with each round that
+-- doesn't end the run this number falls: three times the steps that are left, and the live
+-- clauses, and one more where the calm isn't how many seeds are done.
 use Rattle.std.specs.Prelude.{◌≡◌, ℕ, suc, ◌+◌, ◌≤◌, List, [], ◌∷◌, ◌++◌, length, None, ◌⊎◌, ⊤}
 use Rattle.fo_core.specs.declared.system.System.{System}
 use Rattle.up_machine.specs.declared.event.Event.{Event}
@@ -30,8 +35,8 @@ pub record IsAtRest (limits : Limits) (m : Machine) : Type 0 where
   pub free : held_by m.jobs 0 ≡ None
   pub jobs : (m.jobs ≡ []) ⊎ (limits.steps ≤ m.productive) × ¬ TraceIsOut m
 
--- In a round of jobs that has come to this machine seat 0 has reported; and so has each seat that took
--- a job, or else the steps are spent.
+-- In a round of jobs that has come to this machine seat 0 has reported; and so has each seat that
+-- took a job, or else the steps are spent.
 pub record HaveReported (limits : Limits) (m : Machine) (takes reports : List Event) : Type 0 where
   pub first : 1 ≤ length reports
   pub others : (length reports ≡ length takes) ⊎ (limits.steps ≤ m.productive)
@@ -47,8 +52,8 @@ module _ (sys : System) (limits : Limits) where
   AreReports m seat [] = ⊤
   AreReports m seat (e ∷ es) = IsReport sys limits m seat e × AreReports (happens m e) (suc seat) es
 
-  -- The seats from this one on take jobs, up to the first that gets none; and then the seats report,
-  -- from seat 0 up to the first that can't.
+  -- The seats from this one on take jobs, up to the first that gets none; and then the seats
+  -- report, from seat 0 up to the first that can't.
   pub record AreJobs (m : Machine) (seat : ℕ) (events : List Event) : Type 0 where
     pub takes : List Event
     pub reports : List Event

@@ -13,7 +13,8 @@ ghost use Rattle.up_machine.specs.Rounds.{IsClosed, Rounds};
 ghost use Rattle.up_rounds.specs.Courses.{AreAlike, IsCourse};
 ghost use Rattle.up_rounds.specs.OneRound.{AreRounds};
 
-/// Rounds make at most one history: two runs of one system in the same limits tell the same events.
+/// Rounds make at most one history: two runs of one system in the same limits tell the same
+/// events.
 pub fn rounds_make_one_history()
     ensures { (sys : System) (limits : Limits) (h k : List Event) →
         IsSystem sys → IsCourse sys limits h → IsCourse sys limits k → h ≡ k }

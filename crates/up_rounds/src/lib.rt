@@ -11,6 +11,6 @@ pub use laws::{
 };
 pub use rest_laws::{
     a_round_of_jobs_keeps_rest, nobody_waits_at_rest, only_seats_with_jobs_report,
-    reports_cost_nothing_once_steps_are_spent, rest_is_kept, seat_0_is_never_refuted,
-    takes_of_a_round_are_legal,
+    reports_cost_nothing_once_steps_are_spent, reports_end_with_the_last_take, rest_is_kept,
+    seat_0_is_never_refuted, takes_of_a_round_are_legal,
 };

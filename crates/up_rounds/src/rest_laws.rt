@@ -1,7 +1,7 @@
 //! What holds within a round that begins at rest, each law the contract of a function that does
 //! nothing.
 
-ghost use Rattle.std.specs.Prelude.{◌≡◌, ◌≤◌, ◌++◌, ◌⊎◌, ℕ, List, length};
+ghost use Rattle.std.specs.Prelude.{◌≡◌, ◌≤◌, ◌++◌, ◌⊎◌, ℕ, List, [], length};
 ghost use Rattle.fo_core.specs.declared.system.System.{System};
 ghost use Rattle.fo_core.specs.declared.world.World.{World};
 ghost use Rattle.fo_core.specs.Sorted.{IsSystem};
@@ -19,8 +19,8 @@ ghost use Rattle.up_machine.specs.Replay.{happens, replay, run};
 ghost use Rattle.up_machine.specs.Rounds.{IsReport, Takes};
 ghost use Rattle.up_rounds.specs.OneRound.{AreReports, AreTakes, HaveReported, IsAtRest};
 
-/// The machine is at rest at the start, and an event that opens a frame or retires a clause leaves it
-/// so.
+/// The machine is at rest at the start, and an event that opens a frame or retires a clause
+/// leaves it so.
 pub fn rest_is_kept()
     ensures begins { (limits : Limits) → IsAtRest limits start }
     ensures advances { (limits : Limits) (m : Machine) (w : ℕ) →
@@ -56,6 +56,16 @@ pub fn takes_of_a_round_are_legal()
 pub fn only_seats_with_jobs_report()
     ensures { (sys : System) (limits : Limits) (m : Machine) (seat : ℕ) (e : Event) →
         IsReport sys limits m seat e → HoldsJob m seat }
+{}
+
+/// Where no job was out at the begin of a round, and all seats that took one have reported, no
+/// further seat reports.
+pub fn reports_end_with_the_last_take()
+    ensures { (sys : System) (limits : Limits) (m : Machine) (takes reports : List Event)
+        (e : Event) →
+        m.jobs ≡ [] → AreTakes sys limits m 0 takes →
+        AreReports sys limits (run m takes) 0 reports → length reports ≡ length takes →
+        ¬ IsReport sys limits (run (run m takes) reports) (length reports) e }
 {}
 
 /// Once the steps are spent a seat reports no more than that the run ends, or that a look found
