@@ -20,7 +20,23 @@ fn two_held(rt: &impl Abort, alloc: Global, sys: &System) -> Result<Cube, Fail> 
     Ok(diagram(alloc, &sys.sig, &w, 0)?)
 }
 
-/// Pushes the clause of that cube from the frame of this clause.
+/// Pushes the clause of this cube from the frame of these.
+fn pushed_from<F: Finder>(
+    rt: &impl Abort,
+    alloc: Global,
+    finder: &mut F,
+    sys: &System,
+    frame: &[Cube],
+    cube: &Cube,
+) -> Result<Pushing, Fail> {
+    assert!(rt; sys.is_well_sorted(alloc)?);
+    assert!(rt; cube.is_well_sorted(&sys.sig));
+    assert!(rt; frame.iter().all(|cube| cube.is_well_sorted(&sys.sig)));
+    let order = order(alloc, sys, Purpose::Infer)?;
+    Ok(push(alloc, finder, sys, &order, frame, cube)?)
+}
+
+/// Pushes the clause of that cube from its own frame.
 fn pushed<F: Finder>(
     rt: &impl Abort,
     alloc: Global,
@@ -28,29 +44,33 @@ fn pushed<F: Finder>(
     sys: &System,
 ) -> Result<Pushing, Fail> {
     let cube = two_held(rt, alloc, sys)?;
-    assert!(rt; sys.is_well_sorted(alloc)?);
-    assert!(rt; cube.is_well_sorted(&sys.sig));
-    let order = order(alloc, sys, Purpose::Infer)?;
     let frame = [two_held(rt, alloc, sys)?];
-    assert!(rt; frame.iter().all(|cube| cube.is_well_sorted(&sys.sig)));
-    Ok(push(alloc, finder, sys, &order, &frame, &cube)?)
+    pushed_from(rt, alloc, finder, sys, &frame, &cube)
 }
 
 /// A finder that keeps the answer to the query of that push.
-fn recorded(rt: &impl Abort, alloc: Global, sys: &System) -> Result<Recorded, Fail> {
-    let cube = two_held(rt, alloc, sys)?;
+fn recorded_from(
+    rt: &impl Abort,
+    alloc: Global,
+    sys: &System,
+    frame: &[Cube],
+    cube: &Cube,
+) -> Result<Recorded, Fail> {
     assert!(rt; sys.is_well_sorted(alloc)?);
     assert!(rt; cube.is_well_sorted(&sys.sig));
-    let order = order(alloc, sys, Purpose::Infer)?;
-    let frame = [two_held(rt, alloc, sys)?];
     assert!(rt; frame.iter().all(|cube| cube.is_well_sorted(&sys.sig)));
+    let order = order(alloc, sys, Purpose::Infer)?;
+    let query = before_query(alloc, sys, Some(frame), cube)?;
     let mut finder = Recorded::new(alloc, sys, MOST_WEIGHT)?;
-    finder.keep(
-        alloc,
-        &order,
-        &before_query(alloc, sys, Some(&frame), &cube)?,
-    )?;
+    finder.keep(alloc, &order, &query)?;
     Ok(finder)
+}
+
+/// The same with the clause's own frame.
+fn recorded(rt: &impl Abort, alloc: Global, sys: &System) -> Result<Recorded, Fail> {
+    let cube = two_held(rt, alloc, sys)?;
+    let frame = [two_held(rt, alloc, sys)?];
+    recorded_from(rt, alloc, sys, &frame, &cube)
 }
 
 fn is_second_grab_told(found: &Pushing) -> bool {

@@ -9,7 +9,7 @@ use Rattle.pyv_sorts.specs.declared.model.Elaborated.{Elaborated}
 use Rattle.up_cert.specs.Spots.{IsFirstSpot}
 use Rattle.up_cert.specs.declared.spot.Spot.{Spot}
 use Rattle.up_cert.specs.declared.spot.What.{What}
-use Rattle.up_cert.specs.declared.spot.What.TheVariants.{State, Init, Step, Safety}
+use Rattle.up_cert.specs.declared.spot.What.TheVariants.{State, Init, Step, Safety, Start, Map, Leave, Run}
 use Rattle.updr_told.specs.Ends.{End, printing}
 use Rattle.updr_told.specs.declared.status.Status.TheVariants.{Holds, Wrong, NotBuilt}
 use Rattle.updr_words.specs.Forms.{Form}
@@ -48,6 +48,10 @@ spot_words State k = codes "state " ++ decimal k
 spot_words Init k = codes "init"
 spot_words Step k = codes "step " ++ decimal k
 spot_words Safety k = codes "safety"
+spot_words Start k = codes "start"
+spot_words Map k = codes "map " ++ decimal k
+spot_words Leave k = codes "leave " ++ decimal k
+spot_words Run k = codes "run"
 
 abbrev pub wrong_text : Spot → List ℕ
 wrong_text spot = codes "wrong " ++ spot_words spot.what spot.number ++ codes "\n"

@@ -60,6 +60,10 @@ fn wrong_line(alloc: Global, spot: Spot) -> Result<Vec<u8>, AllocError>
         What::Init => String::from_str(alloc, "wrong init\n")?,
         What::Step => format!(in alloc; "wrong step {number}\n")?,
         What::Safety => String::from_str(alloc, "wrong safety\n")?,
+        What::Start => String::from_str(alloc, "wrong start\n")?,
+        What::Map => format!(in alloc; "wrong map {number}\n")?,
+        What::Leave => format!(in alloc; "wrong leave {number}\n")?,
+        What::Run => String::from_str(alloc, "wrong run\n")?,
     };
     Ok(line.into_bytes())
 }

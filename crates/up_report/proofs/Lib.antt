@@ -1,0 +1,13 @@
+pub mod ClauseArguments
+pub mod ClauseBinders
+pub mod ClauseBodies
+pub mod ClauseChains
+pub mod ClauseExact
+pub mod ClauseHeads
+pub mod ClauseLiterals
+pub mod ClauseLoops
+pub mod ClauseOptions
+pub mod ClauseSorts
+pub mod ClauseVariables
+pub mod ClauseWords
+pub mod ClauseWriting

@@ -1,0 +1,9 @@
+pub mod AfterJobs
+pub mod AlikeLimits
+pub mod FirstEvent
+pub mod FirstSeat
+pub mod Joining
+pub mod OneCourse
+pub mod Parting
+pub mod Reporting
+pub mod Resting
