@@ -1,0 +1,2 @@
+pub mod ClauseReading
+pub mod ClauseTexts
