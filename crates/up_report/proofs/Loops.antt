@@ -10,7 +10,7 @@ use Rattle.fo_text.specs.Reading.{Read, ◌>>=◌, Fails, number_at, values_at}
 use Rattle.up_claims.specs.declared.verdict.Leave.{Leave}
 use Rattle.up_claims.specs.declared.verdict.Link.{Link}
 use Rattle.up_report.specs.Reading.{gathered, map_at, maps_at, link_at, links_at, leave_line_at, leaves_at}
-use Rattle.up_report.specs.WorldStub.{choice_at, many_by}
+use Rattle.fo_text.specs.Reading.{choice_at, many_by}
 
 -- ---- maps
 
@@ -69,8 +69,8 @@ module _ {A : Type 0} (stop go : List ℕ) (item : List ℕ → Read A) (n i : �
   many_step h = let e : n - i ≡ suc (n - (i + 1)) = omega arith in rw e refl
 
   pub many_stops : (word : ℕ) (after : List ℕ) → i < n → choice_at [] [] (stop ∷ go ∷ []) bytes ≡ Ok (word, after) → word ≡ 0 → many_by stop go item (n - i) bytes ≡ Ok ([], after)
-  many_stops word after h e zero =
-      many_step h ∙ ap (λ (r : Read ℕ). r >>= item_or_end) e ∙ ap (λ c. cond c (Ok ([], after)) (items_on after)) (eq-eqb word 0 zero)
+  many_stops word after h e none =
+      many_step h ∙ ap (λ (r : Read ℕ). r >>= item_or_end) e ∙ ap (λ c. cond c (Ok ([], after)) (items_on after)) (eq-eqb word 0 none)
 
   pub many_goes : (word : ℕ) (after : List ℕ) → i < n → choice_at [] [] (stop ∷ go ∷ []) bytes ≡ Ok (word, after) → ¬ (word ≡ 0) → many_by stop go item (n - i) bytes ≡ items_on after
   many_goes word after h e some =

@@ -1,5 +1,6 @@
 -- Leaves are read exactly.
 use Rattle.std.proofs.Common.{◌≡◌, ℕ, zero, suc, ◌+◌, ◌-◌, ◌^◌, ◌<◌, ◌≤◌, min, List, [], ◌∷◌, ◌++◌, length, codes, decimal, Ok, refl, sym, ap, subst, ◌∙◌, append_assoc, arith}
+use Rattle.std.proofs.lemmas.Fmt.{decimal_digit}
 use Rattle.fo_core.specs.declared.names.Names.{Names}
 use Rattle.fo_core.specs.declared.signature.Sig.{Sig}
 use Rattle.fo_core.specs.declared.world.World.{World}
@@ -11,11 +12,10 @@ use Rattle.fo_text.proofs.Exact.{Exact, exact_after, exact_words, exact_pair}
 use Rattle.fo_text.proofs.Numbers.{exact_number}
 use Rattle.up_claims.specs.declared.verdict.Leave.{Leave}
 use Rattle.up_report.specs.Ranges.{HasCopies, HasLeave, HasLeaves}
-use Rattle.up_report.specs.Reading.{gathered, leave_at, leave_line_at, leaves_at, all_leaves_at}
+use Rattle.up_report.specs.Reading.{leave_at, leave_line_at, leaves_at, all_leaves_at}
 use Rattle.up_report.specs.Texts.{leave_text, leaves_text}
-use Rattle.up_report.specs.WorldStub.{world_of_copies_at}
-use Rattle.up_report.proofs.ReadLinks.{nothing}
-use Rattle.up_report.proofs.Waiting.{exact_world_of_copies}
+use Rattle.fo_text.specs.Reading.{world_of_copies_at}
+use Rattle.up_report.proofs.ReadLinks.{nothing, exact_world_of_copies}
 
 -- ---- what is read
 
@@ -46,7 +46,7 @@ module _ (sig : Sig) (names : Names) (is_sig : IsSig sig) (named : NamesEach sig
       (λ bytes. refl)
       (λ clause step h k. (record { level_is = refl; clause = omega (arith, h.1, some); small = omega (arith, h.1); step = k }, refl))
       (λ leave s. (leave.clause, leave.step, (omega arith, omega (arith, s.clause, s.small)), s.step, ap (λ (n : ℕ). record { level = n; clause = leave.clause; step = leave.step }) (sym s.level_is)))
-      (exact_number 0 most 10 (record { range = omega arith; small = omega arith; ends = omega arith })) (λ clause h. exact_world_of_copies sig names is_sig named 2 (omega arith))
+      (exact_number 0 most 10 (record { range = omega arith; small = omega arith; ends = omega arith })) (λ clause h. exact_world_of_copies sig names is_sig named 2 (omega arith) (omega arith))
 
   -- ---- a leave's line and its step
 
@@ -98,5 +98,5 @@ module _ (sig : Sig) (names : Names) (is_sig : IsSig sig) (named : NamesEach sig
   pub all_leaves_words : (leaves : List Leave) → 1 ≤ length leaves → HasLeaves sig clauses 1 leaves → leaves_text sig names leaves ≡ codes "leave 1 " ++ from_number sig names leaves
   all_leaves_words [] h k = absurd (omega (arith, h))
   all_leaves_words (leave ∷ leaves) h k =
-      ap (λ (l : List ℕ). l ++ leaves_text sig names leaves) (line_words 1 leave k.0.level_is)
+      ap (λ (l : List ℕ). l ++ leaves_text sig names leaves) (line_words 1 leave k.0.level_is ∙ ap (λ (l : List ℕ). codes "leave " ++ (l ++ (codes " " ++ number_and_step sig names leave))) (decimal_digit 1 (omega arith)))
       ∙ append_assoc (codes "leave 1 ") (number_and_step sig names leave) (leaves_text sig names leaves)

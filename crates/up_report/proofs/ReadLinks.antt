@@ -11,13 +11,13 @@ use Rattle.fo_core.specs.Sorted.{IsSig}
 use Rattle.fo_text.specs.Texts.{NamesEach, HasText, after_space, text_of}
 use Rattle.fo_text.specs.Reading.{Read, ◌>>=◌, literal_at, values_at}
 use Rattle.fo_text.proofs.Exact.{Exact, exact_done, exact_map, exact_then, exact_after, exact_words, exact_pair}
+use Rattle.fo_text.proofs.Whole.{exact_copied}
 use Rattle.fo_text.proofs.Worlds.{AreValues, values_text, exact_values}
 use Rattle.up_claims.specs.declared.verdict.Link.{Link}
 use Rattle.up_report.specs.Ranges.{HasCopies, AreImages, AreMaps, HasLink, HasLinks}
 use Rattle.up_report.specs.Reading.{map_at, maps_at, state_at, link_at, links_at}
 use Rattle.up_report.specs.Texts.{map_line, map_lines, link_text, links_text}
-use Rattle.up_report.specs.WorldStub.{world_of_copies_at}
-use Rattle.up_report.proofs.Waiting.{exact_world_of_copies}
+use Rattle.fo_text.specs.Reading.{world_of_copies_at}
 
 -- ---- lists
 
@@ -114,6 +114,10 @@ module _ (sig : Sig) (names : Names) (is_sig : IsSig sig) (named : NamesEach sig
     small = recursion_from_All (λ n. n < 2 ^ 32) w.sizes h.sizes;
   }
 
+  -- a world of this many copies
+  pub exact_world_of_copies : (copies : ℕ) → 1 ≤ copies → copies < 2 ^ 32 → Exact (HasCopies sig copies) (text_of sig names) (world_of_copies_at sig names copies)
+  exact_world_of_copies = exact_copied sig names is_sig named
+
   -- what follows a link's origin
   record FromOrigin (origin : World) (link : Link) : Type 0 where
     pub origin_is : link.origin ≡ origin
@@ -130,7 +134,7 @@ module _ (sig : Sig) (names : Names) (is_sig : IsSig sig) (named : NamesEach sig
       (FromOrigin origin) state_text (state_at sig names origin) (λ state maps. record { origin = origin; state = state; map = record { images = maps } })
       (λ bytes. refl) (λ state maps f g. (record { origin_is = refl; state = f; map = g }, refl))
       (λ link s. (link.state, link.map.images, s.state, s.map, ap (λ (w : World). record { origin = w; state = link.state; map = link.map }) (sym s.origin_is)))
-      (exact_world_of_copies sig names is_sig named 1 (omega arith)) (λ state f. exact_maps names.sorts state.sizes origin.sizes (sizes_of state f.0) (sizes_of origin h))
+      (exact_world_of_copies 1 (omega arith) (omega arith)) (λ state f. exact_maps names.sorts state.sizes origin.sizes (sizes_of state f.0) (sizes_of origin h))
 
   link_joins : (copies : ℕ) (origin : World) (link : Link) → HasCopies sig copies origin → FromOrigin origin link → HasLink sig copies link × (link_text sig names link ≡ text_of sig names origin ++ state_text link)
   link_joins copies origin link h s = (
@@ -142,27 +146,27 @@ module _ (sig : Sig) (names : Names) (is_sig : IsSig sig) (named : NamesEach sig
     ap (λ (w : World). text_of sig names w ++ state_text link) s.origin_is,
   )
 
-  pub exact_link : (copies : ℕ) → 1 ≤ copies → Exact (HasLink sig copies) (link_text sig names) (link_at sig names copies)
+  pub exact_link : (copies : ℕ) → 1 ≤ copies → copies < 2 ^ 32 → Exact (HasLink sig copies) (link_text sig names) (link_at sig names copies)
   unfolding link_at
-  exact_link copies some =
+  exact_link copies some few =
       exact_then (HasCopies sig copies) (text_of sig names) (world_of_copies_at sig names copies) FromOrigin (λ origin link. state_text link) (state_at sig names)
       (HasLink sig copies) (link_text sig names) (link_at sig names copies) (λ bytes. refl)
       (link_joins copies) (λ link h. (link.origin, h.origin, record { origin_is = refl; state = h.state; map = h.map }))
-      (exact_world_of_copies sig names is_sig named copies some) (λ origin h. exact_state origin h.0)
+      (exact_world_of_copies copies some few) (λ origin h. exact_state origin h.0)
 
   -- ---- links
 
-  pub exact_links : (n copies : ℕ) → 1 ≤ copies → Exact (LinksFit sig n copies) (links_text sig names) (links_at sig names n copies)
+  pub exact_links : (n copies : ℕ) → 1 ≤ copies → copies < 2 ^ 32 → Exact (LinksFit sig n copies) (links_text sig names) (links_at sig names n copies)
   unfolding links_at
-  exact_links zero copies some = nothing (LinksFit sig zero copies) (links_text sig names) (links_at sig names zero copies) (λ bytes. refl) tt refl only
+  exact_links zero copies some few = nothing (LinksFit sig zero copies) (links_text sig names) (links_at sig names zero copies) (λ bytes. refl) tt refl only
     where
       only : (links : List Link) → LinksFit sig zero copies links → links ≡ []
       only [] h = refl
       only (link ∷ links) h = absurd h
-  exact_links (suc n) copies some =
+  exact_links (suc n) copies some few =
       exact_pair (HasLink sig copies) (link_text sig names) (link_at sig names copies) (λ link. LinksFit sig n 2) (λ link. links_text sig names) (λ link. links_at sig names n 2)
       (LinksFit sig (suc n) copies) (links_text sig names) (links_at sig names (suc n) copies) (λ link links. link ∷ links)
-      (λ bytes. refl) (λ link links f g. ((f, g), refl)) back (exact_link copies some) (λ link f. exact_links n 2 (omega arith))
+      (λ bytes. refl) (λ link links f g. ((f, g), refl)) back (exact_link copies some few) (λ link f. exact_links n 2 (omega arith) (omega arith))
     where
       back : (links : List Link) → LinksFit sig (suc n) copies links → (link : Link) × (rest : List Link) × HasLink sig copies link × LinksFit sig n 2 rest × (link ∷ rest ≡ links)
       back [] h = absurd h

@@ -1,7 +1,6 @@
 -- Reports are read exactly.
 use Rattle.std.proofs.Common.{◌≡◌, ℕ, ◌+◌, ◌-◌, ◌^◌, ◌<◌, ◌≤◌, List, [], ◌∷◌, ◌++◌, length, take, drop, codes, Ok, Err, inl, inr, refl, sym, ap, subst, ◌∙◌, append_assoc, length-append, arith}
-use Rattle.std.proofs.lemmas.List.{append-nil, take_at, take-append-drop}
-use Rattle.std.proofs.Math.Seq.{take-take}
+use Rattle.std.proofs.lemmas.List.{append-nil, take_at, take-append-drop, take-take}
 use Rattle.std.proofs.lemmas.Bool.{cases_lt}
 use Rattle.fo_core.specs.declared.names.Names.{Names}
 use Rattle.fo_core.specs.declared.signature.Sig.{Sig}
@@ -128,8 +127,9 @@ module _ (sig : Sig) (names : Names) (is_sig : IsSig sig) (can : CanName sig nam
     pub stops : StopsAt sig names bytes (length bytes - length rest)
 
   never_more : (bytes : List ℕ) (r : Report) (b : ℕ) (rest : List ℕ) → report_at sig names bytes ≡ Ok (r, b ∷ rest) → (s : Report) → ¬ IsReport sig names bytes s
-  never_more bytes r b rest e s h =
+  never_more bytes r b rest e s = λ h.
       let same : (r, b ∷ rest) ≡ (s, []) = ok_is (r, b ∷ rest) (s, []) (sym e ∙ reads_report bytes s h) in
+      let long : length text + 1 ≡ length (text ++ b ∷ []) = omega (arith, length-append text (b ∷ [])) in
       let longer : length (b ∷ rest) ≡ 0 = ap (λ (p : Report × List ℕ). length p.1) same in
       omega (arith, longer)
 
@@ -141,10 +141,11 @@ module _ (sig : Sig) (names : Names) (is_sig : IsSig sig) (can : CanName sig nam
   is_more bytes r b rest e =
       let t = exact_report.takes bytes r (b ∷ rest) e in
       let text = report_text sig names r in
-      let len : length bytes ≡ length text + (1 + length rest) = ap (λ (l : List ℕ). length l) t.0 ∙ length-append text (b ∷ rest) in
+      let len : length bytes ≡ length text + length (b ∷ rest) = ap (λ (l : List ℕ). length l) t.0 ∙ length-append text (b ∷ rest) in
       let place : length bytes - length (b ∷ rest) ≡ length text = omega arith in
       let part : take (length text) bytes ≡ text = ap (take (length text)) t.0 ∙ take_at text (b ∷ rest) (length text) refl in
-      let longer : take (length text + 1) bytes ≡ text ++ b ∷ [] = ap (take (length text + 1)) (t.0 ∙ sym (append_assoc text (b ∷ []) rest)) ∙ take_at (text ++ b ∷ []) rest (length text + 1) (length-append text (b ∷ [])) in
+      let long : length text + 1 ≡ length (text ++ b ∷ []) = omega (arith, length-append text (b ∷ [])) in
+      let longer : take (length text + 1) bytes ≡ text ++ b ∷ [] = ap (take (length text + 1)) (t.0 ∙ sym (append_assoc text (b ∷ []) rest)) ∙ take_at (text ++ b ∷ []) rest (length text + 1) (sym long) in
       record {
         few = omega arith;
         stops = subst (λ (p : ℕ). StopsAt sig names bytes p) (sym place) (record {

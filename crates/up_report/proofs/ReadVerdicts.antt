@@ -1,6 +1,6 @@
 -- Verdicts are read exactly.
-use Rattle.std.proofs.Common.{◌≡◌, ℕ, zero, suc, ◌+◌, ◌-◌, ◌^◌, ◌<◌, ◌≤◌, List, [], ◌∷◌, ◌++◌, length, flat_map, codes, decimal, Ok, Err, refl, sym, ap, subst, ◌∙◌, append_assoc, length-append, arith}
-use Rattle.std.specs.Prelude.{slice_index_or, ⊤}
+use Rattle.std.proofs.Common.{◌≡◌, ℕ, true, zero, suc, ◌+◌, ◌-◌, ◌^◌, ◌<◌, ◌≤◌, List, [], ◌∷◌, ◌++◌, length, flat_map, codes, decimal, Ok, Err, refl, sym, ap, subst, ◌∙◌, append_assoc, length-append, arith}
+use Rattle.std.specs.Prelude.{slice_index_or}
 use Rattle.std.specs.List.{All, AllByRecursion}
 use Rattle.std.proofs.lemmas.List.{append-nil}
 use Rattle.std.proofs.lemmas.List.Elements.{All-from_recursion, recursion_from_All}
@@ -11,7 +11,9 @@ use Rattle.fo_core.specs.Sorted.{IsSig}
 use Rattle.fo_text.specs.Parts.{IsBetween, number_text}
 use Rattle.fo_text.specs.Reading.{Read, ◌>>=◌, literal_at, number_at}
 use Rattle.fo_text.specs.Texts.{NamesEach, text_of}
+use Rattle.fo_text.proofs.Choices.{are_apart, exact_choice}
 use Rattle.fo_text.proofs.Exact.{Exact, exact_done, exact_map, exact_then, exact_after, exact_words, exact_pair}
+use Rattle.fo_text.proofs.Many.{many_text, many_words, exact_many}
 use Rattle.fo_text.proofs.Numbers.{exact_number}
 use Rattle.up_claims.specs.declared.kind.Kind.{Kind}
 use Rattle.up_claims.specs.declared.kind.Kind.TheVariants.{Seed, Root, Before, Block, Push, Unroll}
@@ -25,10 +27,10 @@ use Rattle.up_report.specs.ClauseTexts.{CanName, HasClause, clause_text}
 use Rattle.up_report.specs.Ranges.{HasCopies, HasLinks, HasLeaves, HasVerdict}
 use Rattle.up_report.specs.Reading.{gathered, links_at, clauses_at, one_clause_at, some_clauses_at, all_leaves_at, safe_at, unsafe_at, chain_at, frames_at, bounded_at, spent_at, kind_words, kind_of, over_at, no_run_at, verdict_words, other_at, ended_at, told_at, verdict_at}
 use Rattle.up_report.specs.Texts.{clauses_text, links_text, leaves_text, kind_word, verdict_word, told_text}
-use Rattle.up_report.specs.WorldStub.{choice_at, world_of_copies_at}
-use Rattle.up_report.proofs.ReadLinks.{LinksFit, exact_links, to_links, from_links}
+use Rattle.fo_text.specs.Reading.{choice_at, world_of_copies_at}
+use Rattle.up_report.proofs.ReadLinks.{LinksFit, exact_world_of_copies, exact_links, to_links, from_links}
 use Rattle.up_report.proofs.ReadLeaves.{LeavesFit, from_number, exact_all_leaves, all_leaves_words}
-use Rattle.up_report.proofs.Waiting.{exact_world_of_copies, exact_clause, exact_choice, exact_many}
+use Rattle.up_report.proofs.Waiting.{exact_clause}
 
 -- the place of the verdict's word
 abbrev pub number_of : Verdict → ℕ
@@ -107,9 +109,18 @@ module _ (sig : Sig) (names : Names) (is_sig : IsSig sig) (can : CanName sig nam
   abbrev Clauses : ℕ → ℕ → List Kept → Type 0
   Clauses least most cs = AllByRecursion (HasClause sig least most) cs
 
-  exact_clauses : (least most : ℕ) (stop : List ℕ) → least ≤ most → Exact (Clauses least most) (λ cs. clauses_text names cs ++ stop) (clauses_at sig names least most stop)
-  exact_clauses least most stop range =
-      exact_many (HasClause sig least most) (clause_text names) (clause_at sig names least most) stop (codes "clause ") (exact_clause sig names is_sig can least most range)
+  abbrev apart : List ℕ → Type 0
+  apart stop = are_apart (stop ∷ codes "clause " ∷ []) ≡ true
+
+  exact_clauses : (least most : ℕ) (stop : List ℕ) → least ≤ most → apart stop → Exact (Clauses least most) (λ cs. clauses_text names cs ++ stop) (clauses_at sig names least most stop)
+  exact_clauses least most stop range differ =
+      let Fits : Kept → Type 0 = HasClause sig least most in
+      let text : Kept → List ℕ = clause_text names in
+      let item : List ℕ → Read Kept = clause_at sig names least most in
+      let go = codes "clause " in
+      exact_words (Clauses least most) (Clauses least most) (many_text Fits text item stop go) (λ cs. clauses_text names cs ++ stop) (clauses_at sig names least most stop) (clauses_at sig names least most stop)
+      (λ bytes. refl) (λ cs h. (h, sym (many_words Fits text item stop go cs))) (λ cs h. h)
+      (exact_many Fits text item stop go differ (exact_clause sig names is_sig can least most range))
 
   record OneClause (least most : ℕ) (cs : List Kept) : Type 0 where
     pub one : length cs ≡ 1
@@ -139,12 +150,12 @@ module _ (sig : Sig) (names : Names) (is_sig : IsSig sig) (can : CanName sig nam
     pub some : 1 ≤ length cs
     pub are : Clauses least most cs
 
-  exact_some_clauses : (least most : ℕ) (stop : List ℕ) → least ≤ most → Exact (SomeClauses least most) (λ cs. clauses_text names cs ++ stop) (some_clauses_at sig names least most stop)
+  exact_some_clauses : (least most : ℕ) (stop : List ℕ) → least ≤ most → apart stop → Exact (SomeClauses least most) (λ cs. clauses_text names cs ++ stop) (some_clauses_at sig names least most stop)
   unfolding some_clauses_at
-  exact_some_clauses least most stop range =
+  exact_some_clauses least most stop range differ =
       exact_pair (OneClause least most) (clauses_text names) (one_clause_at sig names least most) (λ one. Clauses least most) (λ one cs. clauses_text names cs ++ stop) (λ one. clauses_at sig names least most stop)
       (SomeClauses least most) (λ cs. clauses_text names cs ++ stop) (some_clauses_at sig names least most stop) (λ one cs. one ++ cs)
-      (λ bytes. refl) fits back (exact_one_clause least most range) (λ one h. exact_clauses least most stop range)
+      (λ bytes. refl) fits back (exact_one_clause least most range) (λ one h. exact_clauses least most stop range differ)
     where
       fits : (one cs : List Kept) → OneClause least most one → Clauses least most cs → SomeClauses least most (one ++ cs) × (clauses_text names (one ++ cs) ++ stop ≡ clauses_text names one ++ (clauses_text names cs ++ stop))
       fits [] cs h k = absurd (omega (arith, h.one))
@@ -169,7 +180,7 @@ module _ (sig : Sig) (names : Names) (is_sig : IsSig sig) (can : CanName sig nam
       exact_pair (IsBetween 1 64) (number_text 10) (number_at 1 64 10) (λ frame. Clauses (frame + 1) 65) (λ frame cs. clauses_text names cs ++ codes "numbers ") (λ frame. clauses_at sig names (frame + 1) 65 (codes "numbers "))
       (Of 0) ended (safe_at sig names) Safe
       (λ bytes. refl) (λ frame cs h k. ((refl, (h, All-from_recursion (HasClause sig (frame + 1) 65) cs k)), append_assoc (number_text 10 frame) (clauses_text names cs) (codes "numbers ")))
-      back (exact_steps 1 64 (omega arith) (omega arith)) (λ frame h. exact_clauses (frame + 1) 65 (codes "numbers ") (omega (arith, h.1)))
+      back (exact_steps 1 64 (omega arith) (omega arith)) (λ frame h. exact_clauses (frame + 1) 65 (codes "numbers ") (omega (arith, h.1)) refl)
     where
       back : (v : Verdict) → Of 0 v → (frame : ℕ) × (cs : List Kept) × IsBetween 1 64 frame × Clauses (frame + 1) 65 cs × (Safe frame cs ≡ v)
       back (Safe frame cs) h = (frame, cs, h.1.0, recursion_from_All (HasClause sig (frame + 1) 65) cs h.1.1, refl)
@@ -187,9 +198,13 @@ module _ (sig : Sig) (names : Names) (is_sig : IsSig sig) (can : CanName sig nam
   exact_unsafe =
       exact_pair (IsBetween 0 64) (number_text 10) (number_at 0 64 10) (λ steps. HasCopies sig (steps + 1)) (λ steps. text_of sig names) (λ steps. world_of_copies_at sig names (steps + 1))
       (Of 1) (told_text sig names) (unsafe_at sig names) (λ steps. Unsafe)
-      (λ bytes. refl) (λ steps run h k. ((refl, (k.0, omega (arith, h.1, k.1))), let e : length run.copies - 1 ≡ steps = omega (arith, k.1) in ap (λ (n : ℕ). number_text 10 n ++ text_of sig names run) e))
-      back (exact_steps 0 64 (omega arith) (omega arith)) (λ steps h. exact_world_of_copies sig names is_sig named (steps + 1) (omega arith))
+      (λ bytes. refl) fits back (exact_steps 0 64 (omega arith) (omega arith)) (λ steps h. exact_world_of_copies sig names is_sig named (steps + 1) (omega arith) (omega (arith, h.1)))
     where
+      fits : (steps : ℕ) (run : World) → IsBetween 0 64 steps → HasCopies sig (steps + 1) run → Of 1 (Unsafe run) × (told_text sig names (Unsafe run) ≡ number_text 10 steps ++ text_of sig names run)
+      fits steps run h k =
+          let e : length run.copies - 1 ≡ steps = omega (arith, k.1) in
+          ((refl, (k.0, omega (arith, h.1, k.1))), ap (λ (n : ℕ). number_text 10 n ++ text_of sig names run) e)
+
       back : (v : Verdict) → Of 1 v → (steps : ℕ) × (run : World) × IsBetween 0 64 steps × HasCopies sig (steps + 1) run × (Unsafe run ≡ v)
       back (Unsafe run) h = (length run.copies - 1, run, (omega arith, omega (arith, h.1.1)), (h.1.0, omega (arith, h.1.0.fits.some_copy)), refl)
       back (Safe frame clauses) h = absurd (omega (arith, h.0))
@@ -206,7 +221,7 @@ module _ (sig : Sig) (names : Names) (is_sig : IsSig sig) (can : CanName sig nam
   exact_chain =
       exact_pair (IsBetween 0 64) (number_text 10) (number_at 0 64 10) (λ steps. LinksFit sig (steps + 1) 1) (λ steps. links_text sig names) (λ steps. links_at sig names (steps + 1) 1)
       (Of 2) (told_text sig names) (chain_at sig names) (λ steps. NoUniversal)
-      (λ bytes. refl) fits back (exact_steps 0 64 (omega arith) (omega arith)) (λ steps h. exact_links sig names is_sig named (steps + 1) 1 (omega arith))
+      (λ bytes. refl) fits back (exact_steps 0 64 (omega arith) (omega arith)) (λ steps h. exact_links sig names is_sig named (steps + 1) 1 (omega arith) (omega arith))
     where
       fits : (steps : ℕ) (links : List Link) → IsBetween 0 64 steps → LinksFit sig (steps + 1) 1 links → Of 2 (NoUniversal links) × (told_text sig names (NoUniversal links) ≡ number_text 10 steps ++ links_text sig names links)
       fits steps links h k =
@@ -253,7 +268,7 @@ module _ (sig : Sig) (names : Names) (is_sig : IsSig sig) (can : CanName sig nam
       exact_pair (SomeClauses 1 (last + 1)) (λ cs. clauses_text names cs ++ codes "leave 1 ") (some_clauses_at sig names 1 (last + 1) (codes "leave 1 "))
       (λ cs. LeavesFit sig (length cs) last 1) (λ cs. from_number sig names) (λ cs. all_leaves_at sig names (length cs) last)
       (FramesFit last) frames_text (frames_at sig names last) (Bounded last)
-      (λ bytes. refl) fits back (exact_some_clauses 1 (last + 1) (codes "leave 1 ") (omega arith)) (λ cs h. exact_all_leaves sig names is_sig named (length cs) h.some last range.0)
+      (λ bytes. refl) fits back (exact_some_clauses 1 (last + 1) (codes "leave 1 ") (omega arith) refl) (λ cs h. exact_all_leaves sig names is_sig named (length cs) h.some last range.0)
     where
       fits : (cs : List Kept) (leaves : List Leave) → SomeClauses 1 (last + 1) cs → LeavesFit sig (length cs) last 1 leaves → FramesFit last (Bounded last cs leaves) × (clauses_text names cs ++ leaves_text sig names leaves ≡ (clauses_text names cs ++ codes "leave 1 ") ++ from_number sig names leaves)
       fits cs leaves h k = (
@@ -327,7 +342,7 @@ module _ (sig : Sig) (names : Names) (is_sig : IsSig sig) (can : CanName sig nam
       exact_pair (λ k. k < 6) (λ k. slice_index_or kind_words k []) (choice_at [] [] kind_words) (λ k. IsBetween 0 (2 ^ 64 - 1)) (λ k. number_text 10) (λ k. number_at 0 (2 ^ 64 - 1) 10)
       (Of 5) (told_text sig names) over_at (λ k. Over (kind_of k))
       (λ bytes. refl) (λ k weight h g. ((refl, omega (arith, g.1)), kind_words_are k h (number_text 10 weight))) back
-      (exact_choice kind_words) (λ k h. exact_steps 0 (2 ^ 64 - 1) (omega arith) (omega arith))
+      (exact_choice (codes "seed ") (codes "root " ∷ codes "before " ∷ codes "block " ∷ codes "push " ∷ codes "unroll " ∷ []) refl) (λ k h. exact_steps 0 (2 ^ 64 - 1) (omega arith) (omega arith))
     where
       back : (v : Verdict) → Of 5 v → (k : ℕ) × (weight : ℕ) × (k < 6) × IsBetween 0 (2 ^ 64 - 1) weight × (Over (kind_of k) weight ≡ v)
       back (Over kind weight) h = (kind_number kind, weight, kind_small kind, (omega arith, omega (arith, h.1)), ap (λ (k : Kind). Over k weight) (kind_is kind))
@@ -386,7 +401,7 @@ module _ (sig : Sig) (names : Names) (is_sig : IsSig sig) (can : CanName sig nam
       let words : Verdict → List ℕ = λ v. verdict_word v ++ ended v in
       let read : List ℕ → Read Verdict = λ bytes. choice_at [] [] verdict_words bytes >>= λ kind. told_at sig names kind.0 kind.1 in
       let told = exact_then (λ k. k < 7) (λ k. slice_index_or verdict_words k []) (choice_at [] [] verdict_words) Of (λ k. ended) (told_at sig names)
-      (HasVerdict sig) words read (λ bytes. refl) joins (λ v h. (number_of v, number_small v, (refl, h))) (exact_choice verdict_words) exact_told in
+      (HasVerdict sig) words read (λ bytes. refl) joins (λ v h. (number_of v, number_small v, (refl, h))) (exact_choice (codes "safe ") (codes "unsafe " ∷ codes "nouniversal " ∷ codes "bounded " ∷ codes "spent " ∷ codes "over " ∷ codes "norun " ∷ []) refl) exact_told in
       exact_words (HasVerdict sig) (HasVerdict sig) (λ v. codes "report 1\nverdict " ++ words v) to_numbers (verdict_at sig names) (verdict_at sig names) (λ bytes. refl) (λ v h. (h, refl)) (λ v h. h)
       (exact_after (HasVerdict sig) words read (codes "report 1\nverdict ") told)
     where

@@ -14,7 +14,7 @@ use Rattle.up_claims.specs.declared.verdict.Link.{Link}
 use Rattle.up_claims.specs.declared.verdict.Verdict.{Verdict}
 use Rattle.up_claims.specs.declared.verdict.Verdict.TheVariants as verdict
 use Rattle.up_report.specs.ClauseReading.{clause_at}
-use Rattle.up_report.specs.WorldStub.{choice_at, many, world_of_copies_at}
+use Rattle.fo_text.specs.Reading.{choice_at, many, world_of_copies_at}
 
 -- ---- links
 

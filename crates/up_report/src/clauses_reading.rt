@@ -7,9 +7,8 @@ ghost use Rattle.up_report.specs.ClauseTexts.{CanName};
 ghost use Rattle.up_report.specs.Reading.{gathered, clauses_at, one_clause_at, some_clauses_at};
 
 use crate::clause_reading::read_clause;
-use crate::stub::choice;
 use fo_core::{Names, Seq, Sig};
-use fo_text::{Halt, literal};
+use fo_text::{Halt, choice, literal};
 use std::alloc::Global;
 use up_claims::Kept;
 

@@ -6,9 +6,8 @@ ghost use Rattle.fo_text.specs.Texts.{NamesEach};
 ghost use Rattle.fo_text.specs.Reading.{Gives, number_at};
 ghost use Rattle.up_report.specs.Reading.{gathered, leave_at, leave_line_at, leaves_at, all_leaves_at};
 
-use crate::stub::world_of_copies;
 use fo_core::{Names, Seq, Sig};
-use fo_text::{Halt, literal, number};
+use fo_text::{Halt, literal, number, world_of_copies};
 use itoa::Buffer;
 use std::alloc::Global;
 use up_claims::Leave;

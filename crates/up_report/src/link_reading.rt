@@ -7,10 +7,9 @@ ghost use Rattle.fo_text.specs.Texts.{NamesEach, HasText};
 ghost use Rattle.fo_text.specs.Reading.{Gives, number_at, values_at};
 ghost use Rattle.up_report.specs.Reading.{map_at, maps_at, state_at, link_at, links_at};
 
-use crate::stub::world_of_copies;
 use fo_core::{Names, Seq, Sig, Text, World};
 use fo_embed::Map;
-use fo_text::{Halt, literal, number};
+use fo_text::{Halt, literal, number, world_of_copies};
 use std::alloc::Global;
 use up_claims::Link;
 

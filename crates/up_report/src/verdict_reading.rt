@@ -9,9 +9,8 @@ ghost use Rattle.up_report.specs.Reading.{kind_of, safe_at, unsafe_at, chain_at,
 use crate::clauses_reading::{Levels, read_clauses, read_some_clauses};
 use crate::leave_reading::read_all_leaves;
 use crate::link_reading::read_links;
-use crate::stub::{choice, world_of_copies};
 use fo_core::{Names, Sig};
-use fo_text::{Halt, literal, number};
+use fo_text::{Halt, choice, literal, number, world_of_copies};
 use std::alloc::Global;
 use up_claims::{Kind, Numbers, Report, Verdict};
 

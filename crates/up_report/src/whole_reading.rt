@@ -41,8 +41,12 @@ pub fn read(
     ensures bad { IfBad result (StopsAt sig.now names.now bytes.now) }
 {
     match read_report(alloc, sig, names, bytes) {
-        Ok((report, [])) => Ok(report),
-        Ok((_, rest)) => Err(ReportFault::Bad((bytes.len() - rest.len()) as u32)),
+        Ok((report, rest)) => {
+            if !rest.is_empty() {
+                return Err(ReportFault::Bad((bytes.len() - rest.len()) as u32));
+            }
+            Ok(report)
+        }
         Err(Halt::Memory) => Err(ReportFault::Memory),
         Err(Halt::Fault(left)) => Err(ReportFault::Bad((bytes.len() - left) as u32)),
     }

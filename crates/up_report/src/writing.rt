@@ -1,6 +1,6 @@
 //! Writing a report.
 
-ghost use Rattle.std.specs.Prelude.{◌≡◌, ◌++◌, ◌∷◌, ◌-◌, ◌^◌, ◌<◌, ◌≤◌, length, OnOk, OnErr};
+ghost use Rattle.std.specs.Prelude.{◌≡◌, ◌++◌, ◌∷◌, [], ◌-◌, ◌^◌, ◌<◌, ◌≤◌, length, OnOk, OnErr};
 ghost use Rattle.std.specs.List.{All};
 ghost use Rattle.fo_text.specs.Parts.{number_text};
 ghost use Rattle.fo_text.specs.Texts.{NamesEach, HasText, after_space, text_of};
@@ -93,6 +93,7 @@ fn push_maps(names: &[Text], maps: &[Seq<u32>], into: &mut Vec<u8>) -> Result<()
 }
 
 /// Writes a link.
+#[tactic(auto, using(crate::proofs::WriteParts::link_joined))]
 fn push_link(
     alloc: Global,
     sig: &Sig,

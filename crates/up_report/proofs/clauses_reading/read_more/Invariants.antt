@@ -1,7 +1,7 @@
 use Rattle.std.proofs.Common.{◌≡◌, ◌-◌, ◌+◌, length, codes}
 use Rattle.up_report.specs.ClauseReading.{clause_at}
 use Rattle.up_report.specs.Reading.{gathered, clauses_at}
-use Rattle.up_report.specs.WorldStub.{many_by}
+use Rattle.fo_text.specs.Reading.{many_by}
 use Rattle.up_report.proofs.clauses_reading.read_more.Given as goal
 
 abbrev pub invariant-each : goal.invariant-each
