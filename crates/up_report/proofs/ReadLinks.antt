@@ -118,6 +118,12 @@ module _ (sig : Sig) (names : Names) (is_sig : IsSig sig) (named : NamesEach sig
   pub exact_world_of_copies : (copies : ℕ) → 1 ≤ copies → copies < 2 ^ 32 → Exact (HasCopies sig copies) (text_of sig names) (world_of_copies_at sig names copies)
   exact_world_of_copies = exact_copied sig names is_sig named
 
+  pub text_of_read : (copies : ℕ) (bytes : List ℕ) (w : World) (rest : List ℕ) → 1 ≤ copies → copies < 2 ^ 32 → world_of_copies_at sig names copies bytes ≡ Ok (w, rest) → HasText sig w
+  text_of_read copies bytes w rest some few e = ((exact_world_of_copies copies some few).takes bytes w rest e).1.0
+
+  pub sizes_of_read : (copies : ℕ) (bytes : List ℕ) (w : World) (rest : List ℕ) → 1 ≤ copies → copies < 2 ^ 32 → world_of_copies_at sig names copies bytes ≡ Ok (w, rest) → length w.sizes ≡ length names.sorts
+  sizes_of_read copies bytes w rest some few e = (text_of_read copies bytes w rest some few e).fits.sorts ∙ sym named.sorts
+
   -- what follows a link's origin
   record FromOrigin (origin : World) (link : Link) : Type 0 where
     pub origin_is : link.origin ≡ origin

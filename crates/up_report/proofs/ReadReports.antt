@@ -128,8 +128,9 @@ module _ (sig : Sig) (names : Names) (is_sig : IsSig sig) (can : CanName sig nam
 
   never_more : (bytes : List ℕ) (r : Report) (b : ℕ) (rest : List ℕ) → report_at sig names bytes ≡ Ok (r, b ∷ rest) → (s : Report) → ¬ IsReport sig names bytes s
   never_more bytes r b rest e s = λ h.
-      let same : (r, b ∷ rest) ≡ (s, []) = ok_is (r, b ∷ rest) (s, []) (sym e ∙ reads_report bytes s h) in
-      let long : length text + 1 ≡ length (text ++ b ∷ []) = omega (arith, length-append text (b ∷ [])) in
+      let one : Report × List ℕ = (r, b ∷ rest) in
+      let other : Report × List ℕ = (s, []) in
+      let same : one ≡ other = ok_is one other (sym e ∙ reads_report bytes s h) in
       let longer : length (b ∷ rest) ≡ 0 = ap (λ (p : Report × List ℕ). length p.1) same in
       omega (arith, longer)
 
@@ -137,7 +138,7 @@ module _ (sig : Sig) (names : Names) (is_sig : IsSig sig) (can : CanName sig nam
   no_longer r s b tail h k e =
       never_more (report_text sig names s) r b tail (ap (report_at sig names) e ∙ exact_report.again r (b ∷ tail) h) s (record { ranged = k; text = refl })
 
-  pub is_more : (bytes : List ℕ) (r : Report) (b : ℕ) (rest : List ℕ) → report_at sig names bytes ≡ Ok (r, b ∷ rest) → More bytes (b ∷ rest)
+  is_more : (bytes : List ℕ) (r : Report) (b : ℕ) (rest : List ℕ) → report_at sig names bytes ≡ Ok (r, b ∷ rest) → More bytes (b ∷ rest)
   is_more bytes r b rest e =
       let t = exact_report.takes bytes r (b ∷ rest) e in
       let text = report_text sig names r in
@@ -155,6 +156,14 @@ module _ (sig : Sig) (names : Names) (is_sig : IsSig sig) (can : CanName sig nam
           stops = λ lt g. no_longer r g.0 b g.2.0 t.1 g.1 (g.2.1 ∙ ap (λ (l : List ℕ). l ++ g.2.0) longer ∙ append_assoc text (b ∷ []) g.2.0);
         });
       }
+
+  pub more_after : (bytes : List ℕ) (r : Report) (rest : List ℕ) → report_at sig names bytes ≡ Ok (r, rest) → ¬ (length rest ≡ 0) → More bytes rest
+  more_after bytes r [] e some = absurd (some refl)
+  more_after bytes r (b ∷ rest) e some = is_more bytes r b rest e
+
+  pub ends_there : (bytes : List ℕ) (r : Report) (rest : List ℕ) → report_at sig names bytes ≡ Ok (r, rest) → length rest ≡ 0 → IsReport sig names bytes r
+  ends_there bytes r [] e none = is_report bytes r e
+  ends_there bytes r (b ∷ rest) e none = absurd (omega (arith, none))
 
   pub record Stopped (bytes : List ℕ) (left : ℕ) : Type 0 where
     pub few : left ≤ length bytes

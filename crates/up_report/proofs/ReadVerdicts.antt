@@ -106,10 +106,10 @@ module _ (sig : Sig) (names : Names) (is_sig : IsSig sig) (can : CanName sig nam
 
   -- ---- clauses
 
-  abbrev Clauses : ℕ → ℕ → List Kept → Type 0
+  abbrev pub Clauses : ℕ → ℕ → List Kept → Type 0
   Clauses least most cs = AllByRecursion (HasClause sig least most) cs
 
-  abbrev apart : List ℕ → Type 0
+  abbrev pub apart : List ℕ → Type 0
   apart stop = are_apart (stop ∷ codes "clause " ∷ []) ≡ true
 
   exact_clauses : (least most : ℕ) (stop : List ℕ) → least ≤ most → apart stop → Exact (Clauses least most) (λ cs. clauses_text names cs ++ stop) (clauses_at sig names least most stop)
@@ -146,11 +146,11 @@ module _ (sig : Sig) (names : Names) (is_sig : IsSig sig) (can : CanName sig nam
       words (kept ∷ []) h = append_assoc (codes "clause ") (clause_text names kept) []
       words (kept ∷ other ∷ cs) h = absurd (omega (arith, h))
 
-  record SomeClauses (least most : ℕ) (cs : List Kept) : Type 0 where
+  pub record SomeClauses (least most : ℕ) (cs : List Kept) : Type 0 where
     pub some : 1 ≤ length cs
     pub are : Clauses least most cs
 
-  exact_some_clauses : (least most : ℕ) (stop : List ℕ) → least ≤ most → apart stop → Exact (SomeClauses least most) (λ cs. clauses_text names cs ++ stop) (some_clauses_at sig names least most stop)
+  pub exact_some_clauses : (least most : ℕ) (stop : List ℕ) → least ≤ most → apart stop → Exact (SomeClauses least most) (λ cs. clauses_text names cs ++ stop) (some_clauses_at sig names least most stop)
   unfolding some_clauses_at
   exact_some_clauses least most stop range differ =
       exact_pair (OneClause least most) (clauses_text names) (one_clause_at sig names least most) (λ one. Clauses least most) (λ one cs. clauses_text names cs ++ stop) (λ one. clauses_at sig names least most stop)
@@ -167,6 +167,9 @@ module _ (sig : Sig) (names : Names) (is_sig : IsSig sig) (can : CanName sig nam
       back : (cs : List Kept) → SomeClauses least most cs → (one : List Kept) × (more : List Kept) × OneClause least most one × Clauses least most more × (one ++ more ≡ cs)
       back [] h = absurd (omega (arith, h.some))
       back (kept ∷ cs) h = (kept ∷ [], cs, record { one = refl; are = (h.are.0, tt) }, h.are.1, refl)
+
+  pub some_are_read : (last : ℕ) (bytes : List ℕ) (cs : List Kept) (rest : List ℕ) → some_clauses_at sig names 1 (last + 1) (codes "leave 1 ") bytes ≡ Ok (cs, rest) → 1 ≤ length cs
+  some_are_read last bytes cs rest e = ((exact_some_clauses 1 (last + 1) (codes "leave 1 ") (omega arith) refl).takes bytes cs rest e).1.some
 
   -- ---- safe
 
@@ -381,7 +384,7 @@ module _ (sig : Sig) (names : Names) (is_sig : IsSig sig) (can : CanName sig nam
       exact (λ v h. exact_after (λ w. w ≡ v) (λ w. []) (λ bytes. Ok (v, bytes)) (codes "numbers ") (exact_done v))
 
   exact_told : (k : ℕ) → k < 7 → Exact (Of k) ended (told_at sig names k)
-  unfolding ended_at
+  unfolding told_at ended_at other_at
   exact_told zero h = exact_safe
   exact_told (suc zero) h = exact_closed (Of 1) (unsafe_at sig names) exact_unsafe
   exact_told (suc (suc zero)) h = exact_closed (Of 2) (chain_at sig names) exact_chain
@@ -396,7 +399,7 @@ module _ (sig : Sig) (names : Names) (is_sig : IsSig sig) (can : CanName sig nam
   to_numbers v = codes "report 1\nverdict " ++ (verdict_word v ++ ended v)
 
   pub exact_verdict : Exact (HasVerdict sig) to_numbers (verdict_at sig names)
-  unfolding verdict_at
+  unfolding verdict_at word_at
   exact_verdict =
       let words : Verdict → List ℕ = λ v. verdict_word v ++ ended v in
       let read : List ℕ → Read Verdict = λ bytes. choice_at [] [] verdict_words bytes >>= λ kind. told_at sig names kind.0 kind.1 in

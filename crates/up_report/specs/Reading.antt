@@ -184,8 +184,12 @@ verdict_words =
     codes "safe " ∷ codes "unsafe " ∷ codes "nouniversal " ∷ codes "bounded " ∷ codes "spent "
     ∷ codes "over " ∷ codes "norun " ∷ []
 
+-- the number of the word that stands here
+unfoldable pub word_at : List ℕ → Read ℕ
+word_at bytes = choice_at [] [] verdict_words bytes
+
 -- what follows the word of this number, which isn't the first
-abbrev pub other_at : Sig → Names → ℕ → List ℕ → Read Verdict
+unfoldable pub other_at : Sig → Names → ℕ → List ℕ → Read Verdict
 other_at sig names k bytes =
     if k == 1 then unsafe_at sig names bytes
     else (if k == 2 then chain_at sig names bytes
@@ -201,7 +205,7 @@ ended_at sig names k bytes = do
   Ok (told.0, rest)
 
 -- what follows the word of this number, up to the word of the last lines
-abbrev pub told_at : Sig → Names → ℕ → List ℕ → Read Verdict
+unfoldable pub told_at : Sig → Names → ℕ → List ℕ → Read Verdict
 told_at sig names k bytes =
     if k == 0 then safe_at sig names bytes else ended_at sig names k bytes
 
@@ -209,7 +213,7 @@ told_at sig names k bytes =
 unfoldable pub verdict_at : Sig → Names → List ℕ → Read Verdict
 verdict_at sig names bytes = do
   word ← literal_at (codes "report 1\nverdict ") bytes
-  kind ← choice_at [] [] verdict_words word
+  kind ← word_at word
   told_at sig names kind.0 kind.1
 
 -- what follows the word of the last lines

@@ -4,7 +4,7 @@ ghost use Rattle.std.specs.Prelude.{◌≡◌, ◌≤◌};
 ghost use Rattle.fo_core.specs.Sorted.{IsSig};
 ghost use Rattle.fo_text.specs.Reading.{Gives};
 ghost use Rattle.up_report.specs.ClauseTexts.{CanName};
-ghost use Rattle.up_report.specs.Reading.{kind_of, safe_at, unsafe_at, chain_at, frames_at, bounded_at, spent_at, over_at, no_run_at, other_at, ended_at, told_at, verdict_at, numbers_at, report_at};
+ghost use Rattle.up_report.specs.Reading.{kind_of, safe_at, unsafe_at, chain_at, frames_at, bounded_at, spent_at, over_at, no_run_at, other_at, ended_at, told_at, word_at, verdict_at, numbers_at, report_at};
 
 use crate::clauses_reading::{Levels, read_clauses, read_some_clauses};
 use crate::leave_reading::read_all_leaves;
@@ -174,6 +174,7 @@ fn read_no_run(bytes: &[u8]) -> Result<(Verdict, &[u8]), Halt>
 }
 
 /// Reads what follows the verdict's word of this number, which isn't the first.
+#[tactic(auto, unfolding(crate::specs::Reading::other_at))]
 fn read_other<'a>(
     alloc: Global,
     sig: &Sig,
@@ -214,6 +215,7 @@ fn read_ended<'a>(
 }
 
 /// Reads what follows the verdict's word of this number, up to the word of the last lines.
+#[tactic(auto, unfolding(crate::specs::Reading::told_at))]
 fn read_told<'a>(
     alloc: Global,
     sig: &Sig,
@@ -231,6 +233,14 @@ fn read_told<'a>(
     read_ended(alloc, sig, names, word, bytes)
 }
 
+/// Reads the verdict's word, and answers its number.
+#[tactic(auto, unfolding(crate::specs::Reading::word_at))]
+fn read_word(bytes: &[u8]) -> Result<(usize, &[u8]), Halt>
+    ensures { Gives (λ x. (x.0, x.1.now)) result (word_at bytes.now) }
+{
+    choice(bytes, &VERDICT_WORDS)
+}
+
 /// Reads a verdict, up to the word of the last lines.
 #[tactic(auto, unfolding(crate::specs::Reading::verdict_at))]
 fn read_verdict<'a>(
@@ -244,7 +254,7 @@ fn read_verdict<'a>(
     ensures { Gives (λ x. (x.0, x.1.now)) result (verdict_at sig.now names.now bytes.now) }
 {
     let rest = literal(bytes, b"report 1\nverdict ")?;
-    let (word, rest) = choice(rest, &VERDICT_WORDS)?;
+    let (word, rest) = read_word(rest)?;
     read_told(alloc, sig, names, word, rest)
 }
 

@@ -30,7 +30,7 @@ returns-then-word-eq0 c =
 
 pub returns-in_err-kept : goal.returns-in_err-kept
 returns-in_err-kept c =
-    let p = err_from_is_err_and c.from_residual-2.result c.from_residual-2.ensures.1 in
+    let p = err_from_is_err_and c.from_residual-in_err-kept.result c.from_residual-in_err-kept.ensures.1 in
     let stop = c.args.stop.now in
     let go = codes "clause " in
     let item = clause_at c.args.sig.now c.args.names.now c.args.levels.least c.args.levels.most in

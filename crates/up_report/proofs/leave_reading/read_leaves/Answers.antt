@@ -7,7 +7,7 @@ use Rattle.up_report.proofs.leave_reading.read_leaves.Goals as goal
 
 pub returns-in_err-leave : goal.returns-in_err-leave
 returns-in_err-leave c =
-    let p = err_from_is_err_and c.from_residual.result c.from_residual.ensures.1 in
+    let p = err_from_is_err_and c.from_residual-in_err-leave.result c.from_residual-in_err-leave.ensures.1 in
     let sig = c.args.sig.now in
     let names = c.args.names.now in
     let clauses = c.args.clauses in

@@ -9,4 +9,4 @@ pub push_bounded-requires-clause-steps : goal.push_bounded-requires-clause-steps
 push_bounded-requires-clause-steps c =
     let h = rw c.in-Bounded.is at c.requires.ranged in
     subst (λ (leaves : List Leave). All (λ (leave : Leave). HasText c.args.sig.now leave.step) leaves) (sym c.as_slice-in-Bounded.ensures)
-    (steps_are c.args.sig.now (length c.in-Bounded.clauses.now) 1 c.in-Bounded.leaves.now h.leaves_are)
+    (steps_are c.args.sig.now (length c.in-Bounded.clauses) 1 c.in-Bounded.leaves h.leaves_are)
