@@ -25,7 +25,7 @@ use Rattle.up_claims.specs.declared.verdict.Verdict.TheVariants.{Safe, Unsafe, N
 use Rattle.up_report.specs.ClauseReading.{clause_at}
 use Rattle.up_report.specs.ClauseTexts.{CanName, HasClause, clause_text}
 use Rattle.up_report.specs.Ranges.{HasCopies, HasLinks, HasLeaves, HasVerdict}
-use Rattle.up_report.specs.Reading.{gathered, links_at, clauses_at, one_clause_at, some_clauses_at, all_leaves_at, safe_at, unsafe_at, chain_at, frames_at, bounded_at, spent_at, kind_words, kind_of, over_at, no_run_at, verdict_words, other_at, ended_at, told_at, verdict_at}
+use Rattle.up_report.specs.Reading.{gathered, links_at, clauses_at, one_clause_at, some_clauses_at, all_leaves_at, safe_at, unsafe_at, chain_at, frames_at, bounded_at, spent_at, kind_words, kind_of, over_at, no_run_at, verdict_words, other_at, ended_at, told_at, word_at, verdict_at}
 use Rattle.up_report.specs.Texts.{clauses_text, links_text, leaves_text, kind_word, verdict_word, told_text}
 use Rattle.fo_text.specs.Reading.{choice_at, world_of_copies_at}
 use Rattle.up_report.proofs.ReadLinks.{LinksFit, exact_world_of_copies, exact_links, to_links, from_links}
