@@ -277,7 +277,7 @@ module _ (sig : Sig) (names : Names) (is_sig : IsSig sig) (can : CanName sig nam
       fits cs leaves h k = (
         (refl, h, k),
         ap (λ (l : List ℕ). clauses_text names cs ++ l) (all_leaves_words sig names is_sig named (length cs) h.some leaves (omega (arith, k.0, range.0)) k.1)
-        ∙ sym (append_assoc (clauses_text names cs) (codes "leave 1 ") (from_number sig names leaves)),
+            ∙ sym (append_assoc (clauses_text names cs) (codes "leave 1 ") (from_number sig names leaves)),
       )
 
       back : (v : Verdict) → FramesFit last v → (cs : List Kept) × (leaves : List Leave) × SomeClauses 1 (last + 1) cs × LeavesFit sig (length cs) last 1 leaves × (Bounded last cs leaves ≡ v)

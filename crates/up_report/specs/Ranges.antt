@@ -58,7 +58,8 @@ HasLeaves sig clauses level (leave ∷ leaves) =
     HasLeave sig clauses level leave × HasLeaves sig clauses (level + 1) leaves
 
 -- a leave for each frame from 1 to the last, and clauses of levels up to the one after it
-pub record HasFrames (sig : Sig) (last : ℕ) (clauses : List Kept) (leaves : List Leave) : Type 0 where
+pub record HasFrames (sig : Sig) (last : ℕ) (clauses : List Kept) (leaves : List Leave) :
+    Type 0 where
   pub last_is : IsBetween 1 64 last
   pub clauses_are : All (HasClause sig 1 (last + 1)) clauses
   pub one_each : length leaves ≡ last

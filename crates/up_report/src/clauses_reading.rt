@@ -34,7 +34,9 @@ fn read_more<'a>(
     requires signature { IsSig sig.now }
     requires named { CanName sig.now names.now }
     requires range { levels.least ≤ levels.most }
-    ensures { Gives (λ x. (x.0, x.1.now)) result (gathered first (clauses_at sig.now names.now levels.least levels.most stop.now bytes.now)) }
+    ensures { Gives (λ x. (x.0, x.1.now)) result
+        (gathered first
+        (clauses_at sig.now names.now levels.least levels.most stop.now bytes.now)) }
 {
     let mut clauses = first;
     let mut rest = bytes;
@@ -63,7 +65,8 @@ pub fn read_clauses<'a>(
     requires signature { IsSig sig.now }
     requires named { CanName sig.now names.now }
     requires range { levels.least ≤ levels.most }
-    ensures { Gives (λ x. (x.0, x.1.now)) result (clauses_at sig.now names.now levels.least levels.most stop.now bytes.now) }
+    ensures { Gives (λ x. (x.0, x.1.now)) result
+        (clauses_at sig.now names.now levels.least levels.most stop.now bytes.now) }
 {
     read_more(alloc, sig, names, levels, stop, Seq::new(alloc), bytes)
 }
@@ -80,7 +83,8 @@ fn read_line<'a>(
     requires signature { IsSig sig.now }
     requires named { CanName sig.now names.now }
     requires range { levels.least ≤ levels.most }
-    ensures { Gives (λ x. (x.0, x.1.now)) result (one_clause_at sig.now names.now levels.least levels.most bytes.now) }
+    ensures { Gives (λ x. (x.0, x.1.now)) result
+        (one_clause_at sig.now names.now levels.least levels.most bytes.now) }
 {
     let rest = literal(bytes, b"clause ")?;
     let (kept, rest) = read_clause(alloc, sig, names, levels.least, levels.most, rest)?;
@@ -102,7 +106,8 @@ pub fn read_some_clauses<'a>(
     requires signature { IsSig sig.now }
     requires named { CanName sig.now names.now }
     requires range { levels.least ≤ levels.most }
-    ensures { Gives (λ x. (x.0, x.1.now)) result (some_clauses_at sig.now names.now levels.least levels.most stop.now bytes.now) }
+    ensures { Gives (λ x. (x.0, x.1.now)) result
+        (some_clauses_at sig.now names.now levels.least levels.most stop.now bytes.now) }
 {
     let (first, rest) = read_line(alloc, sig, names, levels, bytes)?;
     read_more(alloc, sig, names, levels, stop, first, rest)

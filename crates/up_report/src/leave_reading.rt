@@ -18,7 +18,8 @@ const CLAUSE_NUMBERS: u64 = 1 << 32;
 /// Reads the number of one of this many clauses.
 fn read_clause_number(clauses: u64, bytes: &[u8]) -> Result<(u32, &[u8]), Halt>
     requires { 1 ≤ clauses }
-    ensures { Gives (λ x. (x.0, x.1.now)) result (number_at 0 (min clauses (2 ^ 32) - 1) 10 bytes.now) }
+    ensures { Gives (λ x. (x.0, x.1.now)) result
+        (number_at 0 (min clauses (2 ^ 32) - 1) 10 bytes.now) }
 {
     let (clause, rest) = number(bytes, 0, clauses.min(CLAUSE_NUMBERS) - 1, b'\n')?;
     Ok((clause as u32, rest))
@@ -37,7 +38,8 @@ fn read_leave<'a>(
     requires signature { IsSig sig.now }
     requires named { NamesEach sig.now names.now }
     requires some { 1 ≤ clauses }
-    ensures { Gives (λ x. (x.0, x.1.now)) result (leave_at sig.now names.now clauses level bytes.now) }
+    ensures { Gives (λ x. (x.0, x.1.now)) result
+        (leave_at sig.now names.now clauses level bytes.now) }
 {
     let (clause, rest) = read_clause_number(clauses, bytes)?;
     let (step, rest) = world_of_copies(alloc, sig, names, 2, rest)?;
@@ -62,7 +64,8 @@ fn read_leave_line<'a>(
     requires signature { IsSig sig.now }
     requires named { NamesEach sig.now names.now }
     requires some { 1 ≤ clauses }
-    ensures { Gives (λ x. (x.0, x.1.now)) result (leave_line_at sig.now names.now clauses level bytes.now) }
+    ensures { Gives (λ x. (x.0, x.1.now)) result
+        (leave_line_at sig.now names.now clauses level bytes.now) }
 {
     let mut buffer = Buffer::new();
     let rest = literal(bytes, b"leave ")?;
@@ -85,7 +88,8 @@ fn read_leaves<'a>(
     requires named { NamesEach sig.now names.now }
     requires some { 1 ≤ clauses }
     requires levels { 1 ≤ last }
-    ensures { Gives (λ x. (x.0, x.1.now)) result (gathered (first ∷ []) (leaves_at sig.now names.now clauses (last - 1) 2 bytes.now)) }
+    ensures { Gives (λ x. (x.0, x.1.now)) result
+        (gathered (first ∷ []) (leaves_at sig.now names.now clauses (last - 1) 2 bytes.now)) }
 {
     let mut leaves = Seq::new(alloc);
     leaves.push(first)?;
@@ -112,7 +116,8 @@ pub fn read_all_leaves<'a>(
     requires named { NamesEach sig.now names.now }
     requires some { 1 ≤ clauses }
     requires levels { 1 ≤ last }
-    ensures { Gives (λ x. (x.0, x.1.now)) result (all_leaves_at sig.now names.now clauses last bytes.now) }
+    ensures { Gives (λ x. (x.0, x.1.now)) result
+        (all_leaves_at sig.now names.now clauses last bytes.now) }
 {
     let (first, rest) = read_leave(alloc, sig, names, clauses, 1, bytes)?;
     read_leaves(alloc, sig, names, clauses, first, last, rest)

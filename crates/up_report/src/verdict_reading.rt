@@ -32,7 +32,9 @@ const VERDICT_WORDS: [&[u8]; 7] = [
 ];
 
 /// The words for the kinds of queries, each with a space.
-const KIND_WORDS: [&[u8]; 6] = [b"seed ", b"root ", b"before ", b"block ", b"push ", b"unroll "];
+const KIND_WORDS: [&[u8]; 6] = [
+    b"seed ", b"root ", b"before ", b"block ", b"push ", b"unroll ",
+];
 
 /// Reads the frame and the clauses of a verdict of safety, up to the word of the last lines.
 #[tactic(auto, unfolding(crate::specs::Reading::safe_at))]

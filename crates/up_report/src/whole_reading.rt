@@ -21,12 +21,7 @@ use up_claims::Report;
 /// goes on: where the bytes end too early it is their number, and where more follows a report it is
 /// the place after its end. `ReportFault::Memory` comes where memory runs out. Memory is taken for
 /// what was read, and not for what the text announces.
-pub fn read(
-    alloc: Global,
-    sig: &Sig,
-    names: &Names,
-    bytes: &[u8],
-) -> Result<Report, ReportFault>
+pub fn read(alloc: Global, sig: &Sig, names: &Names, bytes: &[u8]) -> Result<Report, ReportFault>
     requires signature { IsSig sig.now }
     requires named { CanName sig.now names.now }
     requires short { length bytes.now < 2 ^ 32 }

@@ -43,7 +43,8 @@ fn push_spaced(number: u32, into: &mut Vec<u8>) -> Result<(), AllocError>
 fn push_line(sig: &Sig, names: &Names, kept: &Kept, into: &mut Vec<u8>) -> Result<(), AllocError>
     requires named { NamesEach sig.now names.now }
     requires cube { IsCube sig.now kept.now.cube }
-    ensures { OnOk result (into.new.items ≡ into.old.items ++ clauses_text names.now (kept.now ∷ [])) }
+    ensures { OnOk result (into.new.items ≡
+        into.old.items ++ clauses_text names.now (kept.now ∷ [])) }
 {
     into.extend_from_slice(b"clause ")?;
     push_clause(sig, names, kept, into)
@@ -103,7 +104,8 @@ fn push_link(
 ) -> Result<(), AllocError>
     requires named { NamesEach sig.now names.now }
     requires texts { HasLinkTexts sig.now names.now link.now }
-    ensures { OnOk result (into.new.items ≡ into.old.items ++ link_text sig.now names.now link.now) }
+    ensures { OnOk result (into.new.items ≡
+        into.old.items ++ link_text sig.now names.now link.now) }
 {
     world_text(alloc, sig, names, &link.origin, into)?;
     world_text(alloc, sig, names, &link.state, into)?;
@@ -120,7 +122,8 @@ fn push_links(
 ) -> Result<(), AllocError>
     requires named { NamesEach sig.now names.now }
     requires texts { All (HasLinkTexts sig.now names.now) links.now }
-    ensures { OnOk result (into.new.items ≡ into.old.items ++ links_text sig.now names.now links.now) }
+    ensures { OnOk result (into.new.items ≡
+        into.old.items ++ links_text sig.now names.now links.now) }
 {
     'each: for link in links {
         push_link(alloc, sig, names, link, into)?;
@@ -140,7 +143,8 @@ fn push_leave(
 ) -> Result<(), AllocError>
     requires named { NamesEach sig.now names.now }
     requires step { HasText sig.now leave.now.step }
-    ensures { OnOk result (into.new.items ≡ into.old.items ++ leave_text sig.now names.now leave.now) }
+    ensures { OnOk result (into.new.items ≡
+        into.old.items ++ leave_text sig.now names.now leave.now) }
 {
     into.extend_from_slice(b"leave")?;
     push_spaced(leave.level, into)?;
@@ -159,7 +163,8 @@ fn push_leaves(
 ) -> Result<(), AllocError>
     requires named { NamesEach sig.now names.now }
     requires steps { All (λ (leave : Leave). HasText sig.now leave.step) leaves.now }
-    ensures { OnOk result (into.new.items ≡ into.old.items ++ leaves_text sig.now names.now leaves.now) }
+    ensures { OnOk result (into.new.items ≡
+        into.old.items ++ leaves_text sig.now names.now leaves.now) }
 {
     'each: for leave in leaves {
         push_leave(alloc, sig, names, leave, into)?;
@@ -179,7 +184,8 @@ fn push_safe(
 ) -> Result<(), AllocError>
     requires named { NamesEach sig.now names.now }
     requires cubes { All (λ kept. IsCube sig.now kept.cube) clauses.now }
-    ensures { OnOk result (into.new.items ≡ into.old.items ++ (number_text 10 frame ++ clauses_text names.now clauses.now)) }
+    ensures { OnOk result (into.new.items ≡
+        into.old.items ++ (number_text 10 frame ++ clauses_text names.now clauses.now)) }
 {
     push_number(u64::from(frame), b'\n', into)?;
     push_clauses(sig, names, clauses, into)
@@ -195,7 +201,9 @@ fn push_unsafe(
 ) -> Result<(), AllocError>
     requires named { NamesEach sig.now names.now }
     requires text { HasText sig.now run.now }
-    ensures { OnOk result (into.new.items ≡ into.old.items ++ (number_text 10 (length run.now.copies - 1) ++ text_of sig.now names.now run.now)) }
+    ensures { OnOk result (into.new.items ≡
+        into.old.items ++ (number_text 10 (length run.now.copies - 1) ++
+        text_of sig.now names.now run.now)) }
 {
     push_number(run.copies.len() as u64 - 1, b'\n', into)?;
     world_text(alloc, sig, names, run, into)
@@ -211,7 +219,9 @@ fn push_chain(
 ) -> Result<(), AllocError>
     requires named { NamesEach sig.now names.now }
     requires links { HasLinks sig.now links.now }
-    ensures { OnOk result (into.new.items ≡ into.old.items ++ (number_text 10 (length links.now - 1) ++ links_text sig.now names.now links.now)) }
+    ensures { OnOk result (into.new.items ≡
+        into.old.items ++ (number_text 10 (length links.now - 1) ++
+        links_text sig.now names.now links.now)) }
 {
     push_number(links.len() as u64 - 1, b'\n', into)?;
     push_links(alloc, sig, names, links, into)
@@ -230,7 +240,9 @@ fn push_bounded(
     requires named { NamesEach sig.now names.now }
     requires cubes { All (λ kept. IsCube sig.now kept.cube) clauses.now }
     requires steps { All (λ (leave : Leave). HasText sig.now leave.step) leaves.now }
-    ensures { OnOk result (into.new.items ≡ into.old.items ++ (number_text 10 last ++ (clauses_text names.now clauses.now ++ leaves_text sig.now names.now leaves.now))) }
+    ensures { OnOk result (into.new.items ≡
+        into.old.items ++ (number_text 10 last ++
+        (clauses_text names.now clauses.now ++ leaves_text sig.now names.now leaves.now))) }
 {
     push_number(u64::from(last), b'\n', into)?;
     push_clauses(sig, names, clauses, into)?;
@@ -253,7 +265,8 @@ fn word_of(kind: Kind) -> &'static [u8]
 
 /// Writes the kind and the weight of a query above the limit.
 fn push_over(kind: Kind, weight: u64, into: &mut Vec<u8>) -> Result<(), AllocError>
-    ensures { OnOk result (into.new.items ≡ into.old.items ++ (kind_word kind ++ (32 ∷ number_text 10 weight))) }
+    ensures { OnOk result (into.new.items ≡
+        into.old.items ++ (kind_word kind ++ (32 ∷ number_text 10 weight))) }
 {
     into.extend_from_slice(word_of(kind))?;
     into.push(b' ')?;
@@ -285,7 +298,8 @@ fn push_told(
 ) -> Result<(), AllocError>
     requires named { NamesEach sig.now names.now }
     requires ranged { HasVerdict sig.now verdict.now }
-    ensures { OnOk result (into.new.items ≡ into.old.items ++ told_text sig.now names.now verdict.now) }
+    ensures { OnOk result (into.new.items ≡
+        into.old.items ++ told_text sig.now names.now verdict.now) }
 {
     match verdict {
         Verdict::Safe(frame, clauses) => push_safe(sig, names, *frame, clauses.as_slice(), into),
@@ -322,7 +336,8 @@ fn push_report(
 ) -> Result<(), AllocError>
     requires named { NamesEach sig.now names.now }
     requires ranged { HasReport sig.now report.now }
-    ensures { OnOk result (into.new.items ≡ into.old.items ++ report_text sig.now names.now report.now) }
+    ensures { OnOk result (into.new.items ≡
+        into.old.items ++ report_text sig.now names.now report.now) }
 {
     into.extend_from_slice(b"report 1\nverdict ")?;
     into.extend_from_slice(word_before(&report.verdict))?;
@@ -346,7 +361,8 @@ pub fn write(
 ) -> Result<(), AllocError>
     requires named { NamesEach sig.now names.now }
     requires ranged { HasReport sig.now report.now }
-    ensures ok { OnOk result (into.new.items ≡ into.old.items ++ report_text sig.now names.now report.now) }
+    ensures ok { OnOk result (into.new.items ≡
+        into.old.items ++ report_text sig.now names.now report.now) }
     ensures err { OnErr result (into.new.items ≡ into.old.items) }
 {
     let mut text = Vec::new(alloc);
