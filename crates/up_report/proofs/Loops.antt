@@ -1,14 +1,12 @@
 -- Reading one thing after the other, as loops do.
-use Rattle.std.proofs.Common.{◌≡◌, ◌==◌, if◌then◌else◌, ℕ, suc, ◌-◌, ◌+◌, ◌≤◌, ◌<◌, cond, List, [], ◌∷◌, ◌++◌, length, get_or, drop, codes, Ok, Err, refl, sym, ap, ◌∙◌, arith}
+use Rattle.std.proofs.Common.{◌≡◌, ◌==◌, if◌then◌else◌, ℕ, suc, ◌-◌, ◌+◌, ◌≤◌, ◌<◌, cond, List, [], ◌∷◌, length, get_or, drop, Ok, Err, refl, sym, ap, ◌∙◌, arith}
 use Rattle.std.proofs.lemmas.Bool.{eq-eqb, ne_eqb}
 use Rattle.std.proofs.lemmas.List.{at_drop_more, drop_all}
 use Rattle.fo_core.specs.declared.names.Names.{Names}
 use Rattle.fo_core.specs.declared.signature.Sig.{Sig}
 use Rattle.fo_text.specs.declared.halt.Halt.{Halt}
 use Rattle.fo_text.specs.declared.halt.Halt.TheVariants.{Memory, Fault}
-use Rattle.fo_text.specs.Reading.{Read, ◌>>=◌, Fails, number_at, values_at}
-use Rattle.up_claims.specs.declared.verdict.Leave.{Leave}
-use Rattle.up_claims.specs.declared.verdict.Link.{Link}
+use Rattle.fo_text.specs.Reading.{Read, ◌>>=◌, Fails}
 use Rattle.up_report.specs.Reading.{gathered, map_at, maps_at, link_at, links_at, leave_line_at, leaves_at}
 use Rattle.fo_text.specs.Reading.{choice_at, many_by}
 

@@ -1,12 +1,11 @@
 -- Leaves are read exactly.
-use Rattle.std.proofs.Common.{◌≡◌, ℕ, zero, suc, ◌+◌, ◌-◌, ◌^◌, ◌<◌, ◌≤◌, min, List, [], ◌∷◌, ◌++◌, length, codes, decimal, Ok, refl, sym, ap, subst, ◌∙◌, append_assoc, arith}
+use Rattle.std.proofs.Common.{◌≡◌, ℕ, zero, suc, ◌+◌, ◌-◌, ◌^◌, ◌≤◌, min, List, [], ◌∷◌, ◌++◌, length, codes, decimal, refl, sym, ap, ◌∙◌, append_assoc, arith}
 use Rattle.std.proofs.lemmas.Fmt.{decimal_digit}
 use Rattle.fo_core.specs.declared.names.Names.{Names}
 use Rattle.fo_core.specs.declared.signature.Sig.{Sig}
-use Rattle.fo_core.specs.declared.world.World.{World}
 use Rattle.fo_core.specs.Sorted.{IsSig}
 use Rattle.fo_text.specs.Parts.{IsBetween, number_text}
-use Rattle.fo_text.specs.Reading.{Read, ◌>>=◌, literal_at, number_at}
+use Rattle.fo_text.specs.Reading.{◌>>=◌, literal_at, number_at}
 use Rattle.fo_text.specs.Texts.{NamesEach, text_of}
 use Rattle.fo_text.proofs.Exact.{Exact, exact_after, exact_words, exact_pair}
 use Rattle.fo_text.proofs.Numbers.{exact_number}

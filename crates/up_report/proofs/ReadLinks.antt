@@ -1,7 +1,7 @@
 -- Maps and links are read exactly.
 use Rattle.std.proofs.Common.{◌≡◌, ℕ, zero, suc, ◌+◌, ◌-◌, ◌^◌, ◌<◌, ◌≤◌, List, [], ◌∷◌, ◌++◌, length, flat_map, codes, decimal, Ok, refl, sym, ap, subst, ◌∙◌, append_assoc, arith}
 use Rattle.std.specs.Prelude.{⊤}
-use Rattle.std.specs.List.{All, AllByRecursion}
+use Rattle.std.specs.List.{AllByRecursion}
 use Rattle.std.proofs.lemmas.List.{append-nil}
 use Rattle.std.proofs.lemmas.List.Elements.{All-from_recursion, recursion_from_All}
 use Rattle.fo_core.specs.declared.names.Names.{Names}
@@ -10,7 +10,7 @@ use Rattle.fo_core.specs.declared.world.World.{World}
 use Rattle.fo_core.specs.Sorted.{IsSig}
 use Rattle.fo_text.specs.Texts.{NamesEach, HasText, after_space, text_of}
 use Rattle.fo_text.specs.Reading.{Read, ◌>>=◌, literal_at, values_at}
-use Rattle.fo_text.proofs.Exact.{Exact, exact_done, exact_map, exact_then, exact_after, exact_words, exact_pair}
+use Rattle.fo_text.proofs.Exact.{Exact, exact_done, exact_then, exact_after, exact_words, exact_pair}
 use Rattle.fo_text.proofs.Whole.{exact_copied}
 use Rattle.fo_text.proofs.Worlds.{AreValues, values_text, exact_values}
 use Rattle.up_claims.specs.declared.verdict.Link.{Link}

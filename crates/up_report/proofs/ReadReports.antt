@@ -5,9 +5,9 @@ use Rattle.std.proofs.lemmas.Bool.{cases_lt}
 use Rattle.fo_core.specs.declared.names.Names.{Names}
 use Rattle.fo_core.specs.declared.signature.Sig.{Sig}
 use Rattle.fo_core.specs.Sorted.{IsSig}
-use Rattle.fo_text.specs.Parts.{IsBetween, number_text, StartsWith}
+use Rattle.fo_text.specs.Parts.{IsBetween, number_text}
 use Rattle.fo_text.specs.Reading.{Read, ◌>>=◌, literal_at, number_at}
-use Rattle.fo_text.proofs.Exact.{ok_is, Exact, FailsBehind, exact_done, exact_then, exact_after, exact_pair}
+use Rattle.fo_text.proofs.Exact.{ok_is, Exact, exact_done, exact_then, exact_after, exact_pair}
 use Rattle.fo_text.proofs.Numbers.{exact_number}
 use Rattle.fo_text.proofs.Stopping.{stops_before}
 use Rattle.up_claims.specs.declared.report.Numbers.{Numbers}
@@ -17,7 +17,7 @@ use Rattle.up_report.specs.ClauseTexts.{CanName}
 use Rattle.up_report.specs.Ranges.{HasVerdict, AreNumbers, HasReport}
 use Rattle.up_report.specs.Reading.{verdict_at, numbers_at, report_at}
 use Rattle.up_report.specs.Reports.{IsReport, BeginsReport, StopsAt}
-use Rattle.up_report.specs.Texts.{verdict_word, told_text, numbers_text, report_text}
+use Rattle.up_report.specs.Texts.{verdict_word, told_text, report_text}
 use Rattle.up_report.proofs.ReadVerdicts.{to_numbers, exact_verdict}
 
 -- ---- the last lines

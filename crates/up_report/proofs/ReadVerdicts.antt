@@ -1,7 +1,7 @@
 -- Verdicts are read exactly.
-use Rattle.std.proofs.Common.{◌≡◌, ℕ, true, zero, suc, ◌+◌, ◌-◌, ◌^◌, ◌<◌, ◌≤◌, List, [], ◌∷◌, ◌++◌, length, flat_map, codes, decimal, Ok, Err, refl, sym, ap, subst, ◌∙◌, append_assoc, length-append, arith}
+use Rattle.std.proofs.Common.{◌≡◌, ℕ, true, zero, suc, ◌+◌, ◌-◌, ◌^◌, ◌<◌, ◌≤◌, List, [], ◌∷◌, ◌++◌, length, flat_map, codes, Ok, refl, sym, ap, subst, ◌∙◌, append_assoc, arith}
 use Rattle.std.specs.Prelude.{slice_index_or}
-use Rattle.std.specs.List.{All, AllByRecursion}
+use Rattle.std.specs.List.{AllByRecursion}
 use Rattle.std.proofs.lemmas.List.{append-nil}
 use Rattle.std.proofs.lemmas.List.Elements.{All-from_recursion, recursion_from_All}
 use Rattle.fo_core.specs.declared.names.Names.{Names}
@@ -24,8 +24,8 @@ use Rattle.up_claims.specs.declared.verdict.Verdict.{Verdict}
 use Rattle.up_claims.specs.declared.verdict.Verdict.TheVariants.{Safe, Unsafe, NoUniversal, Bounded, Spent, Over, NoRun}
 use Rattle.up_report.specs.ClauseReading.{clause_at}
 use Rattle.up_report.specs.ClauseTexts.{CanName, HasClause, clause_text}
-use Rattle.up_report.specs.Ranges.{HasCopies, HasLinks, HasLeaves, HasVerdict}
-use Rattle.up_report.specs.Reading.{gathered, links_at, clauses_at, one_clause_at, some_clauses_at, all_leaves_at, safe_at, unsafe_at, chain_at, frames_at, bounded_at, spent_at, kind_words, kind_of, over_at, no_run_at, verdict_words, other_at, ended_at, told_at, word_at, verdict_at}
+use Rattle.up_report.specs.Ranges.{HasCopies, HasLeaves, HasVerdict}
+use Rattle.up_report.specs.Reading.{links_at, clauses_at, one_clause_at, some_clauses_at, all_leaves_at, safe_at, unsafe_at, chain_at, frames_at, bounded_at, spent_at, kind_words, kind_of, over_at, no_run_at, verdict_words, other_at, ended_at, told_at, word_at, verdict_at}
 use Rattle.up_report.specs.Texts.{clauses_text, links_text, leaves_text, kind_word, verdict_word, told_text}
 use Rattle.fo_text.specs.Reading.{choice_at, world_of_copies_at}
 use Rattle.up_report.proofs.ReadLinks.{LinksFit, exact_world_of_copies, exact_links, to_links, from_links}

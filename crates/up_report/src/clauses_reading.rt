@@ -1,6 +1,6 @@
 //! Reading the clauses of a verdict.
 
-ghost use Rattle.std.specs.Prelude.{◌≡◌, ◌≤◌};
+ghost use Rattle.std.specs.Prelude.{◌≤◌};
 ghost use Rattle.fo_core.specs.Sorted.{IsSig};
 ghost use Rattle.fo_text.specs.Reading.{Gives};
 ghost use Rattle.up_report.specs.ClauseTexts.{CanName};

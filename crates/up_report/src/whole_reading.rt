@@ -1,6 +1,6 @@
 //! Reading a whole report.
 
-ghost use Rattle.std.specs.Prelude.{◌≡◌, ◌^◌, ◌<◌, length, IfOk};
+ghost use Rattle.std.specs.Prelude.{◌^◌, ◌<◌, length, IfOk};
 ghost use Rattle.fo_core.specs.Sorted.{IsSig};
 ghost use Rattle.up_claims.specs.declared.report.Report.{Report};
 ghost use Rattle.up_report.specs.Answers.{IsUnlessMemory, IfBad};

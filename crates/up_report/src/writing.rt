@@ -1,13 +1,13 @@
 //! Writing a report.
 
-ghost use Rattle.std.specs.Prelude.{◌≡◌, ◌++◌, ◌∷◌, [], ◌-◌, ◌^◌, ◌<◌, ◌≤◌, length, OnOk, OnErr};
+ghost use Rattle.std.specs.Prelude.{◌≡◌, ◌++◌, ◌∷◌, [], ◌-◌, ◌<◌, length, OnOk, OnErr};
 ghost use Rattle.std.specs.List.{All};
 ghost use Rattle.fo_text.specs.Parts.{number_text};
 ghost use Rattle.fo_text.specs.Texts.{NamesEach, HasText, after_space, text_of};
 ghost use Rattle.up_diagram.specs.Cubes.{IsCube};
 ghost use Rattle.up_claims.specs.declared.verdict.Kept.{Kept};
 ghost use Rattle.up_claims.specs.declared.verdict.Leave.{Leave};
-ghost use Rattle.up_report.specs.Ranges.{HasLinks, HasFrames, HasVerdict, HasReport};
+ghost use Rattle.up_report.specs.Ranges.{HasLinks, HasVerdict, HasReport};
 ghost use Rattle.up_report.specs.Writing.{HasLinkTexts};
 ghost use Rattle.up_report.specs.Texts.{clauses_text, map_line, map_lines, link_text, links_text, leave_text, leaves_text, kind_word, verdict_word, told_text, numbers_text, report_text};
 

@@ -1,10 +1,8 @@
-use Rattle.std.proofs.Common.{◌≡◌, ℕ, ◌+◌, ◌-◌, ◌∷◌, [], List, length, codes, sym, ap, ◌∙◌, arith}
+use Rattle.std.proofs.Common.{◌+◌, ◌-◌, ◌∷◌, [], length, codes, sym, ap, ◌∙◌}
 use Rattle.std.proofs.lemmas.Result.{err_from_is_err_and}
-use Rattle.fo_text.specs.Reading.{Read}
 use Rattle.fo_text.proofs.Loops.{list_step, list_ends, list_done}
-use Rattle.up_claims.specs.declared.verdict.Kept.{Kept}
 use Rattle.up_report.specs.ClauseReading.{clause_at}
-use Rattle.up_report.specs.Reading.{gathered, clauses_at}
+use Rattle.up_report.specs.Reading.{gathered}
 use Rattle.fo_text.specs.Reading.{choice_at, many_by}
 use Rattle.up_report.proofs.Loops.{first_fails, item_or_end, many_step, many_stops, many_goes, many_none}
 use Rattle.up_report.proofs.clauses_reading.read_more.Goals as goal

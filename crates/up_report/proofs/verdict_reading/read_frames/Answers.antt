@@ -1,4 +1,3 @@
-use Rattle.std.proofs.Common.{◌≤◌, length}
 use Rattle.up_report.proofs.ReadVerdicts.{some_are_read}
 use Rattle.up_report.proofs.verdict_reading.read_frames.Goals as goal
 
