@@ -1,8 +1,7 @@
 -- Items, each behind a keyword, and then another keyword, are read exactly.
-use Rattle.std.proofs.Common.{◌≡◌, ℕ, zero, suc, ◌+◌, ◌-◌, ◌<◌, ◌≤◌, ◌⊎◌, inl, inr, Bool, true, false, cond, eqb, List, [], ◌∷◌, ◌++◌, length, Result, Ok, Err, refl, sym, ap, subst, ◌∙◌, append_assoc, length-append, arith}
+use Rattle.std.proofs.Common.{◌≡◌, ℕ, zero, suc, ◌+◌, ◌<◌, ◌≤◌, inl, inr, true, cond, eqb, List, [], ◌∷◌, ◌++◌, length, Ok, Err, refl, sym, ap, subst, ◌∙◌, append_assoc, length-append, arith}
 use Rattle.std.specs.List.{AllByRecursion, flat_map}
-use Rattle.std.proofs.lemmas.List.{append-nil}
-use Rattle.fo_text.specs.Reading.{Read, ◌>>=◌, literal_at, choice_at, many_by, many}
+use Rattle.fo_text.specs.Reading.{Read, ◌>>=◌, choice_at, many_by, many}
 use Rattle.fo_text.proofs.Exact.{Exact, IsFault, FailsBehind, FailsBehind-along, bind_ok, bind_err, ok_is, err_is}
 use Rattle.fo_text.proofs.Cuts.{bind_same, shorter}
 use Rattle.fo_text.proofs.Choices.{exact_choice, are_apart, text_at, apart_long}

@@ -1,5 +1,5 @@
 -- Reading the text of a clause from left to right, with the first byte at which it can't go on.
-use Rattle.std.specs.Prelude.{◌≡◌, ℕ, zero, suc, ◌+◌, ◌^◌, Bool, true, false, cond, not, ◌&&◌, ◌||◌, nat_lt, ◌==◌, if◌then◌else◌, List, [], ◌∷◌, ◌++◌, length, map, codes, decimal, slice_index, slice_index_or, Ok, Err}
+use Rattle.std.specs.Prelude.{◌≡◌, ℕ, zero, suc, ◌+◌, ◌-◌, ◌^◌, ◌<◌, ⊤, Bool, true, false, cond, not, ◌&&◌, ◌||◌, nat_lt, ◌==◌, if◌then◌else◌, List, [], ◌∷◌, ◌++◌, length, map, codes, decimal, slice_index, slice_index_or, Ok, Err}
 use Rattle.std.specs.List.{flat_map, list_any, list_all, range_with_len}
 use Rattle.fo_core.specs.declared.signature.Symbol.{Symbol}
 use Rattle.fo_core.specs.declared.signature.Sig.{Sig}
@@ -11,6 +11,8 @@ use Rattle.up_diagram.specs.declared.cube.Flat.TheVariants.{Differ, Fact, Value}
 use Rattle.up_claims.specs.declared.verdict.Kept.{Kept}
 use Rattle.up_report.specs.declared.clause_heads.Head.{Head}
 use Rattle.up_report.specs.declared.clause_heads.Head.TheVariants.{Forall, Nothing, Equal, Applied}
+use Rattle.up_report.specs.declared.clause_heads.Ending.{Ending}
+use Rattle.up_report.specs.declared.clause_heads.Ending.TheVariants.{Argument, LastArgument, Denial, Equality, Arguments, Unequal, Sort, LastSort}
 use Rattle.up_report.specs.ClauseTexts.{symbol_name, mark}
 
 -- ---- items of which each tells whether it is the last
@@ -22,35 +24,53 @@ chain_by item (suc n) k bytes = do
   x ← item k bytes
   if x.0.1 then Ok (x.0.0 ∷ [], x.1) else (chain_by item n (k + 1) x.1 >>= λ xs. Ok (x.0.0 ∷ xs.0, xs.1))
 
--- items from number k on; none are more than the bytes
+-- items from number k on; no list is longer than the bytes
 abbrev pub chain : {A : Type 0} → (ℕ → List ℕ → Read (A × Bool)) → ℕ → List ℕ → Read (List A)
 chain item k bytes = chain_by item (length bytes + 1) k bytes
 
+-- ---- words, and what ends them
+
+abbrev pub texts : Ending → List (List ℕ)
+texts Argument = codes ", V" ∷ []
+texts LastArgument = codes ")" ∷ []
+texts Denial = codes " | " ∷ codes "\n" ∷ []
+texts Equality = codes " = V" ∷ []
+texts Arguments = codes "(V" ∷ []
+texts Unequal = codes " != V" ∷ []
+texts Sort = codes ". " ∷ codes ", V" ∷ []
+texts LastSort = codes ". " ∷ []
+
+-- the places of these texts
+abbrev pub places : Ending → List ℕ
+places ending = range_with_len 0 (length (texts ending))
+
+-- a mark, a word, and one of these texts
+abbrev pub ended : List ℕ → List ℕ → Ending → ℕ → List ℕ
+ended mark word ending e = mark ++ (word ++ slice_index_or (texts ending) e [])
+
 -- ---- a variable
 
--- the number of the variable, if it has the sort, with each place in a list of so many texts
-abbrev pub variable_options : List ℕ → ℕ → ℕ → ℕ → List (ℕ × ℕ)
-variable_options sorts count s v = cond (slice_index sorts v == s) (map (λ k. (v, k)) (range_with_len 0 count)) []
+-- the variable, if it has the sort, with each place of a text
+abbrev pub variable_options : List ℕ → Ending → ℕ → ℕ → List (ℕ × ℕ)
+variable_options sorts ending s v = cond (slice_index sorts v == s) (map (λ e. (v, e)) (places ending)) []
 
--- the number of a variable, and the text that follows it
-abbrev pub ended_text : List (List ℕ) → ℕ × ℕ → List ℕ
-ended_text endings x = [] ++ (decimal x.0 ++ slice_index_or endings x.1 [])
+abbrev pub ended_variable : Ending → ℕ × ℕ → List ℕ
+ended_variable ending x = ended [] (decimal x.0) ending x.1
 
--- the number of a variable of this sort, and which of these texts follows it
-unfoldable pub variable_at : List ℕ → List (List ℕ) → ℕ → List ℕ → Read (ℕ × ℕ)
-variable_at sorts endings s bytes =
-    choose (ended_text endings) (flat_map (variable_options sorts (length endings) s) (range_with_len 0 (length sorts))) bytes
+-- the number of a variable of this sort, and which text ends it
+unfoldable pub variable_at : List ℕ → Ending → ℕ → List ℕ → Read (ℕ × ℕ)
+variable_at sorts ending s bytes =
+    choose (ended_variable ending) (flat_map (variable_options sorts ending s) (range_with_len 0 (length sorts))) bytes
 
--- what follows an argument, where the arguments after it have these sorts
-abbrev pub after_argument : List ℕ → List (List ℕ)
-after_argument [] = codes ")" ∷ []
-after_argument (s ∷ ss) = codes ", V" ∷ []
+-- what ends an argument, where so many arguments follow
+abbrev pub argument_ending : ℕ → Ending
+argument_ending following = if following == 0 then LastArgument else Argument
 
--- variables of these sorts, up to the bracket behind the last
+-- variables of these sorts, up to the bracket that closes
 unfoldable pub arguments_at : List ℕ → List ℕ → List ℕ → Read (List ℕ)
 arguments_at sorts [] bytes = Ok ([], bytes)
 arguments_at sorts (s ∷ ss) bytes = do
-  v ← variable_at sorts (after_argument ss) s bytes
+  v ← variable_at sorts (argument_ending (length ss)) s bytes
   vs ← arguments_at sorts ss v.1
   Ok (v.0.0 ∷ vs.0, vs.1)
 
@@ -59,64 +79,75 @@ arguments_at sorts (s ∷ ss) bytes = do
 abbrev pub has_arguments : Symbol → Bool
 has_arguments symbol = not (length symbol.args == 0)
 
--- what follows a denial: another one, or the end of the line
-abbrev pub ends : List (List ℕ)
-ends = codes " | " ∷ codes "\n" ∷ []
+-- what ends a symbol's name
+abbrev pub name_ending : Symbol → Ending
+name_ending symbol = if has_arguments symbol then Arguments else (if symbol.relation then Denial else Unequal)
 
--- what follows a symbol's name
-abbrev pub endings : Symbol → List (List ℕ)
-endings symbol =
-    if has_arguments symbol then codes "(V" ∷ [] else (if symbol.relation then ends else codes " != V" ∷ [])
+-- some variable has the sort
+abbrev pub has_variable : List ℕ → ℕ → Bool
+has_variable sorts s = list_any (λ t. t == s) sorts
 
--- variables have all sorts that the symbol needs, and `!` stands in front of relations alone
+-- variables have all sorts that the symbol needs
+abbrev pub stands : List ℕ → Symbol → Bool
+stands sorts symbol =
+    list_all (has_variable sorts) symbol.args && (symbol.relation || has_variable sorts symbol.result)
+
+-- `!` stands in front of relations alone
 abbrev pub may_stand : List ℕ → Bool → Symbol → Bool
-may_stand sorts sign symbol =
-    list_all (λ s. list_any (λ t. t == s) sorts) symbol.args
-    && (if symbol.relation then true else (not sign && list_any (λ t. t == symbol.result) sorts))
+may_stand sorts sign symbol = stands sorts symbol && (not sign || symbol.relation)
 
--- the heads that the symbol of number k may give
+-- the heads that the symbol of number k gives
 abbrev pub symbol_heads : Sig → List ℕ → Bool → ℕ → List Head
 symbol_heads sig sorts sign k =
-    cond (may_stand sorts sign (symbol_at sig k)) (map (λ e. Applied sign k (e == 1)) (range_with_len 0 (length (endings (symbol_at sig k))))) []
+    cond (may_stand sorts sign (symbol_at sig k)) (map (λ e. Applied sign k (e == 1)) (places (name_ending (symbol_at sig k)))) []
 
-abbrev pub all_symbol_heads : Sig → List ℕ → Bool → List Head
-all_symbol_heads sig sorts sign = flat_map (symbol_heads sig sorts sign) (range_with_len 0 (length sig.symbols))
+abbrev pub signed_heads : Sig → List ℕ → Bool → List Head
+signed_heads sig sorts sign = flat_map (symbol_heads sig sorts sign) (range_with_len 0 (length sig.symbols))
+
+abbrev pub equal_heads : ℕ → List Head
+equal_heads count = flat_map (λ i. Equal i ∷ []) (range_with_len 0 count)
 
 -- the heads of denials over variables of these sorts
 abbrev pub heads : Sig → List ℕ → List Head
-heads sig sorts =
-    map Equal (range_with_len 0 (length sorts)) ++ (all_symbol_heads sig sorts false ++ all_symbol_heads sig sorts true)
+heads sig sorts = equal_heads (length sorts) ++ (signed_heads sig sorts false ++ signed_heads sig sorts true)
 
 abbrev pub head_text : Sig → Names → Head → List ℕ
 head_text sig names Forall = codes "forall V0:"
 head_text sig names Nothing = codes "false\n"
-head_text sig names (Equal i) = codes "V" ++ (decimal i ++ codes " = V")
+head_text sig names (Equal i) = ended (codes "V") (decimal i) Equality 0
 head_text sig names (Applied sign k last) =
-    mark sign ++ (symbol_name names k ++ slice_index_or (endings (symbol_at sig k)) (if last then 1 else 0) [])
+    ended (mark sign) (symbol_name names k) (name_ending (symbol_at sig k)) (if last then 1 else 0)
+
+-- the head names a variable or a symbol
+abbrev pub IsHeadOf : Sig → List ℕ → Head → Type 0
+IsHeadOf sig sorts Forall = ⊤
+IsHeadOf sig sorts Nothing = ⊤
+IsHeadOf sig sorts (Equal i) = i < length sorts
+IsHeadOf sig sorts (Applied sign k last) = k < length sig.symbols
 
 -- ---- a denial behind its head: the literal, and whether it is the last
 
 unfoldable pub differ_at : List ℕ → ℕ → List ℕ → Read (Flat × Bool)
 differ_at sorts i bytes = do
-  v ← variable_at sorts ends (slice_index sorts i) bytes
+  v ← variable_at sorts Denial (slice_index sorts i) bytes
   Ok ((Differ i v.0.0, v.0.1 == 1), v.1)
 
 unfoldable pub fact_at : Sig → List ℕ → Bool → ℕ → List ℕ → Read (Flat × Bool)
 fact_at sig sorts sign r bytes = do
   vs ← arguments_at sorts (symbol_at sig r).args bytes
-  e ← choice_at [] [] ends vs.1
+  e ← choice_at [] [] (texts Denial) vs.1
   Ok ((Fact sign r vs.0, e.0 == 1), e.1)
 
 unfoldable pub constant_at : Sig → List ℕ → ℕ → List ℕ → Read (Flat × Bool)
 constant_at sig sorts f bytes = do
-  v ← variable_at sorts ends (symbol_at sig f).result bytes
+  v ← variable_at sorts Denial (symbol_at sig f).result bytes
   Ok ((Value f [] v.0.0, v.0.1 == 1), v.1)
 
 unfoldable pub value_at : Sig → List ℕ → ℕ → List ℕ → Read (Flat × Bool)
 value_at sig sorts f bytes = do
   vs ← arguments_at sorts (symbol_at sig f).args bytes
-  equal ← literal_at (codes " != V") vs.1
-  v ← variable_at sorts ends (symbol_at sig f).result equal
+  unequal ← literal_at (codes " != V") vs.1
+  v ← variable_at sorts Denial (symbol_at sig f).result unequal
   Ok ((Value f vs.0 v.0.0, v.0.1 == 1), v.1)
 
 unfoldable pub applied_at : Sig → List ℕ → Bool → ℕ → Bool → List ℕ → Read (Flat × Bool)
@@ -138,18 +169,29 @@ denial_at sig names sorts bytes = do
 
 -- ---- all denials
 
--- the denial with this head, and those behind it
+-- these literals, and those of the denials that follow
+abbrev pub denials_after : Sig → Names → List ℕ → List Flat → List ℕ → Read (List Flat)
+denials_after sig names sorts lits bytes =
+    chain (λ k. denial_at sig names sorts) 0 bytes >>= λ xs. Ok (lits ++ xs.0, xs.1)
+
+-- the denial with this head, and those that follow it
 unfoldable pub denials_from : Sig → Names → List ℕ → Head → List ℕ → Read (List Flat)
 denials_from sig names sorts head bytes = do
   x ← denied_at sig sorts head bytes
   if x.0.1 then Ok (x.0.0 ∷ [], x.1)
-      else (chain (λ k. denial_at sig names sorts) 0 x.1 >>= λ xs. Ok (x.0.0 ∷ xs.0, xs.1))
+      else denials_after sig names sorts (x.0.0 ∷ []) x.1
+
+abbrev pub is_nothing : Head → Bool
+is_nothing Forall = false
+is_nothing Nothing = true
+is_nothing (Equal i) = false
+is_nothing (Applied sign k last) = false
 
 abbrev pub body_from : Sig → Names → List ℕ → Head → List ℕ → Read (List Flat)
-body_from sig names sorts Nothing bytes = Ok ([], bytes)
-body_from sig names sorts head bytes = denials_from sig names sorts head bytes
+body_from sig names sorts head bytes =
+    if is_nothing head then Ok ([], bytes) else denials_from sig names sorts head bytes
 
--- what stands behind the binders
+-- what follows the binders
 unfoldable pub body_at : Sig → Names → List ℕ → List ℕ → Read (List Flat)
 body_at sig names sorts bytes = do
   head ← choose (head_text sig names) (Nothing ∷ heads sig sorts) bytes
@@ -157,20 +199,20 @@ body_at sig names sorts bytes = do
 
 -- ---- the binders
 
--- what follows the sort of variable k
-abbrev pub after_sort : ℕ → List (List ℕ)
-after_sort k = if nat_lt (k + 1) (2 ^ 32 - 1) then codes ". " ∷ codes ", V" ∷ [] else codes ". " ∷ []
+-- what ends the sort of variable k: fewer than 2^32 variables are bound
+abbrev pub sort_ending : ℕ → Ending
+sort_ending k = if nat_lt (k + 1) (2 ^ 32 - 1) then Sort else LastSort
 
-abbrev pub sort_text : Names → ℕ → ℕ × ℕ → List ℕ
-sort_text names k x = [] ++ (slice_index_or names.sorts x.0 [] ++ slice_index_or (after_sort k) x.1 [])
+abbrev pub ended_sort : Names → ℕ → ℕ × ℕ → List ℕ
+ended_sort names k x = ended [] (slice_index_or names.sorts x.0 []) (sort_ending k) x.1
 
 abbrev pub sort_options : ℕ → ℕ → List (ℕ × ℕ)
-sort_options k s = map (λ e. (s, e)) (range_with_len 0 (length (after_sort k)))
+sort_options k s = map (λ e. (s, e)) (places (sort_ending k))
 
--- the sort of variable k, and which text follows it
+-- the sort of variable k, and which text ends it
 unfoldable pub sort_at : Sig → Names → ℕ → List ℕ → Read (ℕ × ℕ)
 sort_at sig names k bytes =
-    choose (sort_text names k) (flat_map (sort_options k) (range_with_len 0 sig.sorts)) bytes
+    choose (ended_sort names k) (flat_map (sort_options k) (range_with_len 0 sig.sorts)) bytes
 
 -- the sort of variable k, up to that of the next one, and whether there is none
 unfoldable pub binder_at : Sig → Names → ℕ → List ℕ → Read (ℕ × Bool)
@@ -195,11 +237,17 @@ free_from sig names level head bytes = do
   lits ← body_from sig names [] head bytes
   Ok (made level [] lits.0, lits.1)
 
-abbrev pub kept_from : Sig → Names → ℕ → Head → List ℕ → Read Kept
-kept_from sig names level Forall bytes = bound_at sig names level bytes
-kept_from sig names level head bytes = free_from sig names level head bytes
+abbrev pub is_forall : Head → Bool
+is_forall Forall = true
+is_forall Nothing = false
+is_forall (Equal i) = false
+is_forall (Applied sign k last) = false
 
--- what a clause may begin with behind its level
+abbrev pub kept_from : Sig → Names → ℕ → Head → List ℕ → Read Kept
+kept_from sig names level head bytes =
+    if is_forall head then bound_at sig names level bytes else free_from sig names level head bytes
+
+-- what a clause may begin with, after its level
 abbrev pub first_heads : Sig → List Head
 first_heads sig = cond (sig.sorts == 0) (Nothing ∷ heads sig []) (Forall ∷ Nothing ∷ heads sig [])
 

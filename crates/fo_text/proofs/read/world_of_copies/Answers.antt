@@ -1,7 +1,4 @@
-use Rattle.std.proofs.Common.{◌≡◌, ◌<◌, ◌-◌, ◌^◌, length, sym, subst, arith}
-use Rattle.std.specs.Prelude.{Result, ℕ, List}
-use Rattle.fo_core.specs.declared.world.World.{World}
-use Rattle.fo_text.specs.Reading.{Read, Gives}
+use Rattle.std.proofs.Common.{◌<◌, ◌-◌, ◌^◌, length, sym, arith}
 use Rattle.fo_text.proofs.Whole.{copied_cut}
 use Rattle.fo_text.proofs.read.world_of_copies.Goals as goal
 
