@@ -1,6 +1,10 @@
 pub mod ClauseArguments
+pub mod ClauseBinders
+pub mod ClauseBodies
 pub mod ClauseChains
+pub mod ClauseExact
 pub mod ClauseHeads
+pub mod ClauseLiterals
 pub mod ClauseLoops
 pub mod ClauseOptions
 pub mod ClauseSorts
@@ -11,5 +15,4 @@ pub mod ReadLeaves
 pub mod ReadLinks
 pub mod ReadReports
 pub mod ReadVerdicts
-pub mod Waiting
 pub mod WriteParts
