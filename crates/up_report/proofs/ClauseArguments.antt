@@ -1,5 +1,5 @@
 -- Variables and arguments are read exactly.
-use Rattle.std.proofs.Common.{◌≡◌, ℕ, zero, suc, ◌+◌, ◌-◌, ◌^◌, ◌<◌, ◌≤◌, Bool, true, false, cond, eqb, List, [], ◌∷◌, ◌++◌, length, get_or, map, flat_map, codes, decimal, Result, Ok, Err, refl, sym, ap, subst, ◌∙◌, append_assoc, arith}
+use Rattle.std.proofs.Common.{◌≡◌, ℕ, zero, suc, ◌^◌, ◌<◌, Bool, true, false, cond, eqb, List, [], ◌∷◌, ◌++◌, length, map, flat_map, codes, decimal, Ok, Err, refl, sym, ap, ◌∙◌, append_assoc, arith}
 use Rattle.std.specs.Prelude.{⊤}
 use Rattle.std.specs.List.{AllByRecursion, AllZip}
 use Rattle.std.proofs.Math.Dec.{eqb-suc-zero}
@@ -10,7 +10,7 @@ use Rattle.fo_text.proofs.Choices.{Among, Apart, text_at, exact_choose, exact_ch
 use Rattle.up_diagram.specs.Cubes.{HasSort}
 use Rattle.up_report.specs.declared.clause_heads.Ending.{Ending}
 use Rattle.up_report.specs.declared.clause_heads.Ending.TheVariants.{Argument, LastArgument, Denial}
-use Rattle.up_report.specs.ClauseTexts.{joined, variable_text, applied_text}
+use Rattle.up_report.specs.ClauseTexts.{variable_text, applied_text}
 use Rattle.up_report.specs.ClauseReading.{texts, ended_variable, variable_at, argument_ending, arguments_at}
 use Rattle.up_report.proofs.ClauseWords.{some_text}
 use Rattle.up_report.proofs.ClauseVariables.{options, IsOption, to_option, from_option, variables_apart, variable_is}

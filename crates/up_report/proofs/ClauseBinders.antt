@@ -1,16 +1,15 @@
 -- The variables of a clause and their sorts are read exactly.
-use Rattle.std.proofs.Common.{◌≡◌, ℕ, zero, suc, ◌+◌, ◌-◌, ◌^◌, ◌<◌, ◌≤◌, inl, inr, Bool, true, false, cond, eqb, ltb, List, [], ◌∷◌, ◌++◌, length, get_or, map, flat_map, codes, decimal, Result, Ok, Err, refl, sym, ap, subst, ◌∙◌, append_assoc, length-append, arith}
+use Rattle.std.proofs.Common.{◌≡◌, ℕ, zero, suc, ◌+◌, ◌-◌, ◌^◌, ◌<◌, ◌≤◌, inl, inr, Bool, true, false, cond, eqb, ltb, List, [], ◌∷◌, ◌++◌, length, get_or, flat_map, codes, decimal, Ok, Err, refl, sym, ap, subst, ◌∙◌, append_assoc, length-append, arith}
 use Rattle.std.specs.List.{All, AllByRecursion, range_with_len}
-use Rattle.std.proofs.lemmas.Bool.{cases_lt, lt-ltb, le-ltb, ltb-true}
+use Rattle.std.proofs.lemmas.Bool.{cases_lt, lt-ltb, ltb-true}
 use Rattle.std.proofs.lemmas.List.{append-nil}
-use Rattle.std.proofs.lemmas.List.Elements.{All-from_recursion, recursion_from_All}
+use Rattle.std.proofs.lemmas.List.Elements.{All-from_recursion}
 use Rattle.fo_core.specs.declared.signature.Sig.{Sig}
 use Rattle.fo_core.specs.declared.names.Names.{Names}
 use Rattle.fo_core.specs.Named.{IsName}
 use Rattle.fo_text.specs.Reading.{Read, ◌>>=◌, literal_at, choose}
 use Rattle.fo_text.proofs.Exact.{Exact, exact_done, exact_then, exact_words, exact_after}
 use Rattle.fo_text.proofs.Choices.{Among, Apart, text_at, among_flat, among_flattened, among_map, among_mapped, among_range, ranged}
-use Rattle.up_report.specs.declared.clause_heads.Ending.{Ending}
 use Rattle.up_report.specs.declared.clause_heads.Ending.TheVariants.{Sort, LastSort}
 use Rattle.up_report.specs.ClauseTexts.{CanName, joined, variable_text, binder_texts}
 use Rattle.up_report.specs.ClauseReading.{texts, places, sort_ending, ended_sort, sort_options, sort_at, binder_at, chain}
@@ -132,8 +131,7 @@ module _ (sig : Sig) (names : Names) (named : CanName sig names) (some : 0 < sig
   joins_by k s zero h l =
       ((h, λ (n : true ≡ false). absurd cc), ap (λ (t : List ℕ). sort_name s ++ t) (sym (first_text (ltb (k + 1) (2 ^ 32 - 1)))) ∙ sym (append-nil (sort_name s ++ text_at (texts (sort_ending k)) 0)))
   joins_by k s (suc zero) h l =
-      let t = second_text (ltb (k + 1) (2 ^ 32 - 1)) l in
-      (
+      let t = second_text (ltb (k + 1) (2 ^ 32 - 1)) l in (
         (h, λ n. ltb-true (k + 1) (2 ^ 32 - 1) t.0),
         sym (append_assoc (sort_name s) (codes ", V") (decimal (k + 1) ++ codes ":")) ∙ ap (λ (u : List ℕ). (sort_name s ++ u) ++ (decimal (k + 1) ++ codes ":")) (sym t.1),
       )

@@ -1,11 +1,11 @@
 -- All denials of a clause are read exactly.
-use Rattle.std.proofs.Common.{◌≡◌, ℕ, zero, suc, ◌+◌, ◌-◌, ◌^◌, ◌<◌, ◌≤◌, inl, inr, Bool, true, false, cond, List, [], ◌∷◌, ◌++◌, length, map, flat_map, codes, Ok, Err, refl, sym, ap, subst, ◌∙◌, append_assoc, length-append, arith}
+use Rattle.std.proofs.Common.{◌≡◌, ℕ, ◌+◌, ◌^◌, ◌<◌, inl, inr, Bool, true, false, cond, List, [], ◌∷◌, ◌++◌, length, map, flat_map, codes, Ok, refl, sym, ap, subst, ◌∙◌, append_assoc, length-append, arith}
 use Rattle.std.specs.Prelude.{⊤}
 use Rattle.std.specs.List.{AllByRecursion}
 use Rattle.std.proofs.lemmas.List.{append-nil}
 use Rattle.fo_core.specs.declared.signature.Sig.{Sig}
 use Rattle.fo_core.specs.declared.names.Names.{Names}
-use Rattle.fo_text.specs.Reading.{Read, ◌>>=◌, choose}
+use Rattle.fo_text.specs.Reading.{Read, choose}
 use Rattle.fo_text.proofs.Exact.{Exact, exact_done, exact_map, exact_then}
 use Rattle.fo_text.proofs.Choices.{Among, exact_choose}
 use Rattle.up_diagram.specs.declared.cube.Flat.{Flat}
@@ -178,9 +178,9 @@ module _ (sig : Sig) (names : Names) (named : CanName sig names) (sorts : List �
   line_joins h (lit ∷ l ∷ ls) f = (
     (f.0.0, flats_of 0 (l ∷ ls) f.1),
     lits_words 0 lit (l ∷ ls)
-    ∙ ap (λ (t : List ℕ). denial_line names (lit, false) ++ t) (sym (lits_words 1 l ls) ∙ lits_words 0 l ls)
-    ∙ ap (λ (t : List ℕ). t ++ chained (l ∷ ls)) (headed_line h lit false f.0)
-    ∙ append_assoc (heading h) (rest_text lit false) (chained (l ∷ ls)),
+        ∙ ap (λ (t : List ℕ). denial_line names (lit, false) ++ t) (sym (lits_words 1 l ls) ∙ lits_words 0 l ls)
+        ∙ ap (λ (t : List ℕ). t ++ chained (l ∷ ls)) (headed_line h lit false f.0)
+        ∙ append_assoc (heading h) (rest_text lit false) (chained (l ∷ ls)),
   )
 
   pub body_joins : (h : Head) (lits : List Flat) → BodyThen h lits → IsBody lits × (body_line names lits ≡ heading h ++ body_rest h lits)

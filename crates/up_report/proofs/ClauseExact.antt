@@ -1,6 +1,5 @@
 -- A clause is read exactly.
-use Rattle.std.proofs.Common.{◌≡◌, ℕ, zero, suc, ◌+◌, ◌-◌, ◌^◌, ◌<◌, ◌≤◌, inl, inr, Bool, true, false, cond, eqb, List, [], ◌∷◌, ◌++◌, length, codes, decimal, Ok, Err, refl, sym, ap, subst, ◌∙◌, append_assoc, arith}
-use Rattle.std.specs.Prelude.{⊤}
+use Rattle.std.proofs.Common.{◌≡◌, ℕ, ◌^◌, ◌<◌, ◌≤◌, inl, inr, false, List, [], ◌∷◌, ◌++◌, length, codes, decimal, refl, sym, ap, subst, ◌∙◌, append_assoc, arith}
 use Rattle.std.specs.List.{All, AllByRecursion}
 use Rattle.std.proofs.lemmas.Bool.{cases_lt, eq-eqb, ne_eqb}
 use Rattle.std.proofs.lemmas.Fmt.{decimal_digit}
@@ -17,7 +16,7 @@ use Rattle.up_diagram.specs.Cubes.{IsFlat, IsCube}
 use Rattle.up_claims.specs.declared.verdict.Kept.{Kept}
 use Rattle.up_report.specs.declared.clause_heads.Head.{Head}
 use Rattle.up_report.specs.declared.clause_heads.Head.TheVariants.{Forall, Nothing, Equal, Applied}
-use Rattle.up_report.specs.ClauseTexts.{CanName, joined, variable_text, binder_texts, binders_text, denials_text, clause_text, HasClause}
+use Rattle.up_report.specs.ClauseTexts.{CanName, joined, binder_texts, binders_text, denials_text, clause_text, HasClause}
 use Rattle.up_report.specs.ClauseReading.{heads, head_text, first_heads, is_forall, body_from, body_at, binder_at, chain, made, bound_at, free_from, kept_from, clause_at}
 use Rattle.up_report.proofs.ClauseHeads.{heads_apart, body_good, first_good, first_none, first_some}
 use Rattle.up_report.proofs.ClauseBinders.{BindersFit, binders_chain, exact_binders, few_sorts, all_sorts, binders_from, binder_words}
@@ -196,8 +195,7 @@ module _ (sig : Sig) (names : Names) (named : CanName sig names) where
     kept_by level kept (t ∷ ts) e s =
         let all = recursion_from_All (λ n. n < sig.sorts) (t ∷ ts) (subst (λ (ss : List ℕ). All (λ n. n < sig.sorts) ss) e s.cube.sorts) in
         let flat = recursion_from_All (IsFlat sig (t ∷ ts)) kept.cube.lits (subst (λ (ss : List ℕ). All (IsFlat sig ss) kept.cube.lits) e s.cube.lits) in
-        let few : length (t ∷ ts) < 2 ^ 32 = subst (λ (ss : List ℕ). length ss < 2 ^ 32) e s.few in
-        (
+        let few : length (t ∷ ts) < 2 ^ 32 = subst (λ (ss : List ℕ). length ss < 2 ^ 32) e s.few in (
           Forall,
           inl refl,
           record {
@@ -251,7 +249,7 @@ module _ (sig : Sig) (names : Names) (named : CanName sig names) where
   joins least most level kept h s = (
     record { level = subst (IsBetween least most) (sym s.level_is) h; cube = s.cube; few = s.few },
     line_words (decimal kept.level ++ codes " ") (binders_text names kept.cube.sorts) (denials_text names kept.cube.lits) (codes "\n")
-    ∙ ap (λ (l : ℕ). (decimal l ++ codes " ") ++ start_text kept) s.level_is,
+        ∙ ap (λ (l : ℕ). (decimal l ++ codes " ") ++ start_text kept) s.level_is,
   )
 
   pub exact_clause : (least most : ℕ) → least ≤ most → most < 2 ^ 64 → Exact (HasClause sig least most) (clause_text names) (clause_at sig names least most)

@@ -1,7 +1,7 @@
 -- Denials are read exactly.
-use Rattle.std.proofs.Common.{◌≡◌, ℕ, zero, suc, ◌+◌, ◌-◌, ◌^◌, ◌<◌, ◌≤◌, ◌⊎◌, inl, inr, Bool, true, false, cond, eqb, not, ◌&&◌, ◌||◌, List, [], ◌∷◌, ◌++◌, length, get_or, map, flat_map, codes, decimal, Result, Ok, Err, refl, sym, ap, subst, ◌∙◌, append_assoc, length-append, arith}
+use Rattle.std.proofs.Common.{◌≡◌, ℕ, zero, suc, ◌^◌, ◌<◌, ◌⊎◌, inl, inr, Bool, true, false, cond, eqb, not, ◌&&◌, ◌||◌, List, [], ◌∷◌, ◌++◌, length, get_or, codes, decimal, Result, Ok, Err, refl, sym, ap, subst, ◌∙◌, append_assoc, arith}
 use Rattle.std.specs.Prelude.{⊤}
-use Rattle.std.specs.List.{All, AllByRecursion, AllZip, list_any, list_all}
+use Rattle.std.specs.List.{AllZip, list_any, list_all}
 use Rattle.std.proofs.lemmas.Bool.{eq-eqb, ne_eqb, eqb-true}
 use Rattle.std.proofs.Math.Dec.{eqb-suc-zero}
 use Rattle.std.proofs.lemmas.List.{append-nil, nil_from_length}
@@ -19,7 +19,7 @@ use Rattle.up_report.specs.declared.clause_heads.Head.{Head}
 use Rattle.up_report.specs.declared.clause_heads.Head.TheVariants.{Forall, Nothing, Equal, Applied}
 use Rattle.up_report.specs.declared.clause_heads.Ending.{Ending}
 use Rattle.up_report.specs.declared.clause_heads.Ending.TheVariants.{Denial, Arguments, Unequal}
-use Rattle.up_report.specs.ClauseTexts.{CanName, symbol_name, mark, variable_text, applied_text, denial_text}
+use Rattle.up_report.specs.ClauseTexts.{CanName, symbol_name, mark, variable_text, denial_text}
 use Rattle.up_report.specs.ClauseReading.{texts, variable_at, arguments_at, has_variable, stands, may_stand, has_arguments, name_ending, heads, head_text, differ_at, fact_at, constant_at, value_at, applied_at, denied_at, denial_at}
 use Rattle.up_report.proofs.ClauseHeads.{IsSymbolHead, IsDenialHead, heads_good, heads_apart, from_heads, to_equal, to_symbol}
 use Rattle.up_report.proofs.ClauseArguments.{last_place, end_text, end_at, exact_end, last_variable_at, exact_last_variable, arguments_text, applied_words, HaveVariables, exact_arguments, exact_among}

@@ -10,6 +10,7 @@ pub mod ClauseOptions
 pub mod ClauseSorts
 pub mod ClauseVariables
 pub mod ClauseWords
+pub mod ClauseWriting
 pub mod Loops
 pub mod ReadLeaves
 pub mod ReadLinks

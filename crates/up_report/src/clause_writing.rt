@@ -66,12 +66,7 @@ fn push_applied(
 }
 
 /// Writes the negation of a literal.
-fn push_denial(
-    into: &mut Vec<u8>,
-    sig: &Sig,
-    names: &Names,
-    lit: &Flat,
-) -> Result<(), AllocError>
+fn push_denial(into: &mut Vec<u8>, sig: &Sig, names: &Names, lit: &Flat) -> Result<(), AllocError>
     requires named { NamesEach sig.now names.now }
     requires known { IsKnown sig.now lit.now }
     ensures { OnOk result (into.new.items ≡ into.old.items ++ denial_text names.now lit.now) }

@@ -1,4 +1,3 @@
-use Rattle.up_report.proofs.ClauseExact.{exact_clause}
 use Rattle.up_report.proofs.ClauseBinders.{few_read}
 use Rattle.up_report.proofs.clause_reading.read_bound.Goals as goal
 

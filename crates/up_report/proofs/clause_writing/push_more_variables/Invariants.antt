@@ -1,4 +1,4 @@
-use Rattle.std.proofs.Common.{◌≡◌, ◌++◌, ◌+◌, drop, flat_map, codes}
+use Rattle.std.proofs.Common.{◌≡◌, ◌++◌, drop, flat_map, codes}
 use Rattle.up_report.specs.ClauseTexts.{variable_text}
 use Rattle.up_report.proofs.clause_writing.push_more_variables.Given as goal
 
