@@ -9,6 +9,16 @@ mod clause_symbols;
 mod clause_variables;
 mod clause_words;
 mod clause_writing;
+mod clauses_reading;
+mod fault;
+mod laws;
+mod leave_reading;
+mod link_reading;
+mod verdict_reading;
+mod whole_reading;
+mod writing;
 
-pub use clause_reading::read_clause;
-pub use clause_writing::push_clause;
+pub use fault::ReportFault;
+pub use laws::{no_report_begins_another, one_report_has_a_text, reading_stops_at_one_place};
+pub use whole_reading::read;
+pub use writing::write;
