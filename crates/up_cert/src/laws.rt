@@ -13,13 +13,13 @@ ghost use Rattle.up_claims.specs.Verdicts.{Holds};
 ghost use Rattle.up_cert.specs.declared.judged.Judged.{Judged};
 ghost use Rattle.up_cert.specs.declared.judged.Judged.TheVariants as judged;
 ghost use Rattle.up_cert.specs.declared.spot.Spot.{Spot};
-ghost use Rattle.up_cert.specs.Asked.{IsOver};
+ghost use Rattle.up_cert.specs.Asked.{IsVerdict};
 ghost use Rattle.up_cert.specs.Judging.{IsJudged};
 ghost use Rattle.up_cert.specs.VerdictSpots.{Passes, queries_at, spots_of};
 
 /// All spots of a verdict over the system's signature pass exactly where it holds.
 pub fn a_verdict_holds_where_all_spots_pass()
-    ensures { (sys : System) (told : Verdict) → IsOver sys.sig told →
+    ensures { (sys : System) (told : Verdict) → IsVerdict sys.sig told →
         All (Passes sys told) (spots_of told) ↔ Holds sys told }
 {}
 
@@ -32,7 +32,7 @@ pub fn queries_of_the_spots_judge_a_verdict()
 
 /// A verdict that is judged to hold does, and one that is judged to be wrong doesn't.
 pub fn judged_rightly()
-    ensures holds { (sys : System) (limit : ℕ) (told : Verdict) → IsOver sys.sig told →
+    ensures holds { (sys : System) (limit : ℕ) (told : Verdict) → IsVerdict sys.sig told →
         IsJudged sys limit told judged.Holds → Holds sys told }
     ensures wrong { (sys : System) (limit : ℕ) (told : Verdict) (s : Spot) →
         IsJudged sys limit told (judged.Wrong s) → ¬ Holds sys told }
