@@ -20,7 +20,7 @@ use Rattle.up_cert.specs.declared.spot.What.TheVariants as what
 use Rattle.up_cert.specs.Asked.{IsVerdict}
 use Rattle.up_cert.specs.VerdictSpots.{Passes, spots_of, spot, spots_below, leaves_to, clause_spots, frame_spots, clause_at, no_clause, leave_at, no_leave, last_copy}
 use Rattle.up_cert.proofs.ChainPasses.{chain-there, chain-back}
-use Rattle.up_cert.proofs.Numbered.{each-from, each-to, one-from, one-to}
+use Rattle.up_cert.proofs.Numbered.{each-from, each-to, one-from, one-to, frame-all}
 use Rattle.up_cert.proofs.SpotLemmas.{run-states}
 
 -- what holds of the clauses' cubes, or of the clauses, holds of each by its number
@@ -87,13 +87,7 @@ module _ (sys : System) where
         }
 
     pub frame-to : PassByNumber → All P (frame_spots clauses)
-    frame-to h =
-        let n = length clauses in
-        All-append P (clause_spots clauses) (spot what.Safety 0 ∷ [])
-        (All-append P (spots_below what.Init n) (spots_below what.Step n)
-        (each-to P (λ j. spot what.Init j ∷ []) n (λ k lt. one-from P (spot what.Init k) (h.starts k lt)))
-        (each-to P (λ j. spot what.Step j ∷ []) n (λ k lt. one-from P (spot what.Step k) (h.keeps k lt))))
-        (one-from P (spot what.Safety 0) h.safe)
+    frame-to h = frame-all P clauses h.starts h.keeps h.safe
 
   module _ (frame : ℕ) (clauses : List Kept) where
     safe-there : IsVerdict sys.sig (verdict.Safe frame clauses) → All (Passes sys (verdict.Safe frame clauses)) (frame_spots clauses) → Holds sys (verdict.Safe frame clauses)
