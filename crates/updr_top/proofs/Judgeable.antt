@@ -138,5 +138,5 @@ can_judge e bytes r order model is short rises =
       shallow = model.shallow;
       over = is_over e.sys.sig r.verdict is.ranged.verdict_is;
       numbers = has_numbers e.sys.sig e.names r.verdict is.ranged.verdict_is (omega (arith, within, whole, short));
-      order = is_ordered e.sys order r.verdict rises;
+      ordered = is_ordered e.sys order r.verdict rises;
     }
