@@ -52,15 +52,15 @@ module _ (contents : Contents) (sys : System) (names : Names) (means : MeansText
 
   -- a report isn't refused
   reported : HasJudgeable sys names contents → ((g : Given) × MeansGiven contents g × HasNoReport g) → ⊥
-  reported (r, (is, ordered)) (g, (given, none)) = none r (second r is g given)
+  reported (r, is, fit) (g, given, none) = none r (second r is g given)
 
   -- nor is the system for want of an order
-  ordered_report : HasJudgeable sys names contents → ((g : Given) × MeansGiven contents g × (h : Reported) × MeansReported g h × not_ordered.comes h) → ⊥
-  ordered_report (r, (is, ordered)) (g, (given, (h, (read, (asked, none))))) =
+  ordered_report : HasJudgeable sys names contents → ((g : Given) × MeansGiven contents g × ((h : Reported) × MeansReported g h × not_ordered.comes h)) → ⊥
+  ordered_report (r, is, fit) (g, given, (h, read, (asked, none))) =
       let same = one_meaning (content_at contents 0) sys names means g.meant.sys g.meant.names given.text in
       let one : r ≡ h.report = read.only r (second r is g given) in
       let told : IsAsked r.verdict = subst (λ (x : Report). IsAsked x.verdict) (sym one) asked in
-      let here : IsStratified g.meant.sys purpose.Infer = subst (λ (s : System). IsStratified s purpose.Infer) same.0 (ordered told) in
+      let here : IsStratified g.meant.sys purpose.Infer = subst (λ (s : System). IsStratified s purpose.Infer) same.0 (fit told) in
       none (subst (λ (x : Given). IsStratified x.meant.sys purpose.Infer) (sym read.same) here)
 
   check_unrefused : (job : Job) → HasJudgeable sys names contents → NoneRefuses (check_command.rows job) contents

@@ -1,17 +1,37 @@
 -- How the stages of a report end.
-use Rattle.std.proofs.Common.{◌≡◌, ℕ, List, [], ◌∷◌, refl, inl}
+use Rattle.std.proofs.Common.{◌≡◌, ◌<◌, ◌≤◌, ◌^◌, ℕ, List, [], ◌∷◌, Err, length, refl, inl, arith}
+use Rattle.std.specs.List.{All}
 use Rattle.std.specs.Prelude.{None}
+use Rattle.std.proofs.lemmas.List.Elements.{All-head, All-tail}
 use Rattle.fo_core.specs.declared.order.Order.{Order}
 use Rattle.fo_core.specs.declared.order.Purpose.TheVariants.{Infer}
 use Rattle.fo_core.specs.SortGraph.{SortEdge, Rises}
 use Rattle.up_claims.specs.declared.report.Report.{Report}
+use Rattle.pv_base.specs.Reading.{limit}
 use Rattle.updr_told.specs.Ends.{End}
-use Rattle.updr_table.specs.Rows.{Ends, Row, content_at}
+use Rattle.updr_told.specs.Stops.{IfRefused}
+use Rattle.updr_told.specs.declared.stop.Stop.{Stop}
+use Rattle.updr_told.specs.declared.stop.Stop.TheVariants.{Refused, Memory}
+use Rattle.updr_table.specs.Rows.{Contents, Ends, Row, content_at}
 use Rattle.updr_table.proofs.Staging.{meaning_ends, refusal_ends}
 use Rattle.updr_model.specs.Cycles.{RefusesSystem, unstratified_words}
 use Rattle.updr_model.specs.OnModel.{Given}
 use Rattle.updr_top.specs.Reading.{IsTheReport, RefusesReport}
 use Rattle.updr_top.specs.Reported.{IsAsked, IsOrderedReported, MeansReported, Reported, if_ordered, not_ordered, not_read, not_read_words, over_report}
+
+-- the second content is short, also where there is none
+pub short_second : (xs : Contents) → All (λ (bytes : List ℕ). length bytes ≤ limit) xs → length (content_at xs 1) < 2 ^ 32
+short_second [] all = omega arith
+short_second (b ∷ []) all = omega arith
+short_second (b ∷ c ∷ bs) all =
+    let P : List ℕ → Type 0 = λ bytes. length bytes ≤ limit in
+    let h : length c ≤ 1048576 = All-head P c bs (All-tail P b (c ∷ bs) all) in
+    omega (arith, h)
+
+-- what is said twice of the end of a refusal is said together
+pub both_refused : {L : Type 0} (T : Type 0) (s : Stop L) (P Q : End L → Type 0) → IfRefused {L = L} {T = T} (Err s) P → IfRefused {L = L} {T = T} (Err s) Q → IfRefused {L = L} {T = T} (Err s) (λ e. P e × Q e)
+both_refused T (Refused told) P Q p q = (p, q)
+both_refused T Memory P Q p q = tt
 
 module _ (g : Given) where
   -- a text that is no report is refused by the row for it

@@ -41,7 +41,7 @@ returns-in-NoRun g c =
     let found = rw (c.in-NoRun.is) at c.in_ok-world.ensures.found in
     let sys = c.args.meant.now.sys in
     let limit = g.F.Finder.limit c.args.finder.now in
-    if_end c.reported-in-NoRun.result _ _ (λ e is cs. inr (inl (record { comes = has_no_run sys limit c.args.depth found.0 found.1; bytes = _; left = None; says = refl; is = is }))) c.reported-in-NoRun.ensures
+    if_end c.reported.result _ _ (λ e is cs. inr (inl (record { comes = has_no_run sys limit c.args.depth found.0 found.1; bytes = _; left = None; says = refl; is = is }))) c.reported.ensures
 
 pub returns-in-Over : goal.returns-in-Over
 returns-in-Over g c =
