@@ -1,5 +1,5 @@
 -- How the stages of a report end.
-use Rattle.std.proofs.Common.{◌≡◌, ◌<◌, ◌≤◌, ◌^◌, ℕ, List, [], ◌∷◌, Err, length, refl, inl, arith}
+use Rattle.std.proofs.Common.{◌<◌, ◌≤◌, ◌^◌, ℕ, List, [], ◌∷◌, Err, length, refl, inl, arith}
 use Rattle.std.specs.List.{All}
 use Rattle.std.specs.Prelude.{None}
 use Rattle.std.proofs.lemmas.List.Elements.{All-head, All-tail}

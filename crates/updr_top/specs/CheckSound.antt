@@ -1,10 +1,9 @@
 -- A verdict is judged in one way, so at most one row of `check` comes.
-use Rattle.std.proofs.Common.{◌≡◌, ◌∙◌, ℕ, List, [], ◌∷◌, ◌++◌, ap, ap₂, refl, subst, sym, arith}
+use Rattle.std.proofs.Common.{◌≡◌, ◌∙◌, ℕ, List, [], ◌∷◌, ap₂, refl, subst, sym, arith}
 use Rattle.std.specs.List.{All, flat_map}
 use Rattle.std.proofs.lemmas.List.Concat.{flat_map-cons}
 use Rattle.std.proofs.lemmas.List.Elements.{All-nil, All-cons}
 use Rattle.clap.proofs.OnLiterals.{clap_on_literals}
-use Rattle.fo_core.specs.declared.query.Query.{Query}
 use Rattle.fo_core.specs.declared.system.System.{System}
 use Rattle.fo_core.specs.Finds.{IsLight}
 use Rattle.fo_core.proofs.ListFacts.{all_flat, all_left, all_right}
@@ -18,7 +17,7 @@ use Rattle.up_cert.specs.declared.judged.Judged.TheVariants as judged
 use Rattle.up_cert.specs.declared.spot.Spot.{Spot}
 use Rattle.up_cert.specs.Asked.{IsOver}
 use Rattle.up_cert.specs.Judging.{Clears, IsFound, IsJudged}
-use Rattle.up_cert.specs.VerdictSpots.{Passes, queries_at, spots_of}
+use Rattle.up_cert.specs.VerdictSpots.{queries_at, spots_of}
 use Rattle.up_cert.proofs.Judgements.{one-judgement, judged-holds, judged-wrong}
 use Rattle.up_cert.proofs.PassLemmas.{passes-back}
 use Rattle.up_cert.proofs.QueryLemmas.{queries-of-spots}
@@ -27,7 +26,7 @@ use Rattle.updr_table.specs.Stages.{IsStage}
 use Rattle.updr_table.proofs.Staging.{stage_one}
 use Rattle.updr_model.specs.OnModel.{Given, IsSoundOnModel}
 use Rattle.updr_top.specs.Check.{Claims, IsConfirmed, IsOverAt, IsWrongAt, check_form, check_limit, check_rows, judge_table}
-use Rattle.updr_top.specs.Reported.{HasNoReport, IsOrderedReported, MeansReported, Reported, if_ordered, not_ordered, not_read}
+use Rattle.updr_top.specs.Reported.{IsOrderedReported, MeansReported, Reported, if_ordered, not_ordered, not_read}
 
 -- ---- what a judgement says
 
