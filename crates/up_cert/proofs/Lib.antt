@@ -1,1 +1,15 @@
+pub mod AskedLemmas
+pub mod ChainPasses
+pub mod FoundLemmas
+pub mod FrameLemmas
+pub mod HaltLemmas
+pub mod Judgements
+pub mod LinkLemmas
+pub mod LookLemmas
+pub mod Numbered
+pub mod PassLemmas
+pub mod QueryLemmas
 pub mod SpotLemmas
+pub mod TriedLemmas
+pub mod VerdictsFound
+pub mod WorldLemmas

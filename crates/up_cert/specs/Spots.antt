@@ -49,6 +49,7 @@ FailsFirst sys w State = FirstNoState sys w
 FailsFirst sys w Init = NotInitial sys w
 FailsFirst sys w Step = FirstNoStep sys w
 FailsFirst sys w Safety = NoneViolated sys w
+FailsFirst sys w _ = λ k. ⊥
 
 abbrev pub IsFirstSpot : System → World → Spot → Type 0
 IsFirstSpot sys w spot = FailsFirst sys w spot.what spot.number
