@@ -52,7 +52,7 @@ pub record Exact {A : Type 0} (Fits : A → Type 0) (text : A → List ℕ) (rea
   pub again : (x : A) (rest : List ℕ) → Fits x → read (text x ++ rest) ≡ Ok (x, rest)
   pub fault : (bytes : List ℕ) (left : ℕ) → read bytes ≡ Err left → IsFault Fits text read bytes left
 
-FailsBehind-along : {A B : Type 0} (read : List ℕ → Read A) (other : List ℕ → Read B) (front rest : List ℕ) → ((bytes : List ℕ) (left : ℕ) → read bytes ≡ Err left → other bytes ≡ Err left) → FailsBehind read front rest → FailsBehind other front rest
+pub FailsBehind-along : {A B : Type 0} (read : List ℕ → Read A) (other : List ℕ → Read B) (front rest : List ℕ) → ((bytes : List ℕ) (left : ℕ) → read bytes ≡ Err left → other bytes ≡ Err left) → FailsBehind read front rest → FailsBehind other front rest
 FailsBehind-along read other front [] along h = tt
 FailsBehind-along read other front (b ∷ rest) along h = λ tail. let f = h tail in (f.0, along (front ++ b ∷ tail) f.0 f.1)
 

@@ -8,3 +8,5 @@ pub mod Cuts
 pub mod Whole
 pub mod Places
 pub mod Stopping
+pub mod Choices
+pub mod Many

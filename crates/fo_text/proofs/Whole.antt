@@ -1,5 +1,5 @@
 -- The text of a whole world is read exactly.
-use Rattle.std.proofs.Common.{◌≡◌, ℕ, ◌-◌, ◌^◌, ◌<◌, ◌≤◌, Bool, true, false, cond, List, [], ◌∷◌, ◌++◌, length, map, codes, Ok, refl, sym, ap, subst, ◌∙◌, append_assoc, arith}
+use Rattle.std.proofs.Common.{◌≡◌, ℕ, ◌-◌, ◌^◌, ◌<◌, ◌≤◌, Bool, true, false, cond, List, [], ◌∷◌, ◌++◌, length, map, codes, decimal, Ok, refl, sym, ap, subst, ◌∙◌, append_assoc, arith}
 use Rattle.std.specs.Prelude.{slice_index}
 use Rattle.std.specs.List.{All, AllByRecursion, filter}
 use Rattle.std.proofs.lemmas.List.{map-id}
@@ -13,11 +13,11 @@ use Rattle.fo_core.specs.Tables.{is_like, range_of, IsTable, AreTables}
 use Rattle.fo_core.specs.Sorted.{HasSorts, IsSig}
 use Rattle.fo_text.specs.declared.lines.Line.{Line}
 use Rattle.fo_text.specs.Texts.{NamesEach, names_like, sort_lines, table_lines, copies_text, text_of, HasText}
-use Rattle.fo_text.specs.Reading.{Read, ◌>>=◌, line_of, lines_of, cut, count_at, sizes_at, tables_of, structure_at, world_at}
+use Rattle.fo_text.specs.Reading.{Read, ◌>>=◌, line_of, lines_of, cut, count_at, sizes_at, tables_of, structure_at, world_at, literal_at, copied_world_at, world_of_copies_at}
 use Rattle.fo_text.proofs.Counts.{tuples-positive}
-use Rattle.fo_text.proofs.Exact.{Exact, exact_then, exact_words}
+use Rattle.fo_text.proofs.Exact.{Exact, exact_after, exact_then, exact_words}
 use Rattle.fo_text.proofs.Worlds.{IsLine, TableFits, TablesFit, names_in, IsWord32, SizesFit, first_line, TablesOf, behind_fixed, exact_count, exact_sizes, exact_tables_of}
-use Rattle.fo_text.proofs.Cuts.{bind_same, shorter, tables_of_cut}
+use Rattle.fo_text.proofs.Cuts.{bind_same, shorter, literal_shorter, tables_of_cut}
 
 by_recursion : {X : Type 0} (P Q : X → Type 0) → ((x : X) → P x → Q x) → (xs : List X) → AllByRecursion P xs → AllByRecursion Q xs
 by_recursion P Q h [] a = tt
@@ -233,13 +233,56 @@ module _ (sig : Sig) (names : Names) (is_sig : IsSig sig) (named : NamesEach sig
       (λ n w h s. (to_world n w h s, words_are n w (sym s.behind_is.count))) from_world exact_count (λ n h. exact_sized n)
 
   -- what the code reads, with counts that are cut
+  sized_cut : (n : ℕ) (bytes : List ℕ) → length bytes < 2 ^ 64 - 1 → (sizes_at names.sorts bytes >>= λ sizes. structure_at cut sig names sizes.0 n sizes.1) ≡ sized_at n bytes
+  sized_cut n bytes short =
+      bind_same (sizes_at names.sorts bytes) (λ sizes. structure_at cut sig names sizes.0 n sizes.1) (λ sizes. structure_at same sig names sizes.0 n sizes.1)
+      (λ sizes f.
+      let h = ((exact_sizes names.sorts).takes bytes sizes.0 sizes.1 f).1 in
+      tables_of_cut sizes.0 n (fixed_of sizes.0) (mutable_of sizes.0) (lines_are sizes.0 false h) (lines_are sizes.0 true h) sizes.1 (omega (arith, shorter _ _ _ (exact_sizes names.sorts) bytes sizes f))
+      ∙ sym (ap (λ (l : List Line). tables_of sizes.0 n l (map same (mutable_of sizes.0)) sizes.1) (map-id (fixed_of sizes.0)) ∙ ap (λ (l : List Line). tables_of sizes.0 n (fixed_of sizes.0) l sizes.1) (map-id (mutable_of sizes.0))))
+
   pub world_cut : (bytes : List ℕ) → length bytes < 2 ^ 64 - 1 → world_at cut sig names bytes ≡ world_at same sig names bytes
   unfolding world_at
   world_cut bytes short =
       bind_same (count_at bytes) (λ n. sizes_at names.sorts n.1 >>= λ sizes. structure_at cut sig names sizes.0 n.0 sizes.1) (λ n. sizes_at names.sorts n.1 >>= λ sizes. structure_at same sig names sizes.0 n.0 sizes.1)
-      (λ n e. bind_same (sizes_at names.sorts n.1) (λ sizes. structure_at cut sig names sizes.0 n.0 sizes.1) (λ sizes. structure_at same sig names sizes.0 n.0 sizes.1)
-      (λ sizes f.
-      let h = ((exact_sizes names.sorts).takes n.1 sizes.0 sizes.1 f).1 in
-      let less = shorter _ _ _ exact_count bytes n e in
-      tables_of_cut sizes.0 n.0 (fixed_of sizes.0) (mutable_of sizes.0) (lines_are sizes.0 false h) (lines_are sizes.0 true h) sizes.1 (omega (arith, less, shorter _ _ _ (exact_sizes names.sorts) n.1 sizes f))
-      ∙ sym (ap (λ (l : List Line). tables_of sizes.0 n.0 l (map same (mutable_of sizes.0)) sizes.1) (map-id (fixed_of sizes.0)) ∙ ap (λ (l : List Line). tables_of sizes.0 n.0 (fixed_of sizes.0) l sizes.1) (map-id (mutable_of sizes.0)))))
+      (λ n e. sized_cut n.0 n.1 (omega (arith, shorter _ _ _ exact_count bytes n e)))
+
+  -- ---- a world of a known number of copies
+
+  -- a world that fits, of so many copies
+  abbrev pub HasCopies : ℕ → World → Type 0
+  HasCopies n w = HasText sig w × (length w.copies ≡ n)
+
+  abbrev numbered : ℕ → World → List ℕ
+  numbered n w = codes "world " ++ (decimal n ++ (codes "\n" ++ sized n w))
+
+  copied_words : (n : ℕ) (w : World) → length w.copies ≡ n → text_of sig names w ≡ numbered n w
+  copied_words n w e =
+      words_are n w (sym e) ∙ ap (λ (l : List ℕ). codes "world " ++ l) (append_assoc (decimal n) (10 ∷ []) (sized n w))
+
+  abbrev copied_after : ℕ → List ℕ → Read World
+  copied_after n bytes = literal_at (codes "world ") bytes >>= λ word. literal_at (decimal n) word >>= λ number. literal_at (codes "\n") number >>= sized_at n
+
+  pub exact_copied : (n : ℕ) → 1 ≤ n → n < 2 ^ 32 → Exact (HasCopies n) (text_of sig names) (world_of_copies_at sig names n)
+  unfolding copied_world_at
+  exact_copied n some few =
+      exact_words (Sized n) (HasCopies n) (numbered n) (text_of sig names) (copied_after n) (world_of_copies_at sig names n) (λ bytes. refl)
+      (λ w s. ((to_world n w (some, omega arith) s, s.behind_is.count), copied_words n w s.behind_is.count)) back
+      (exact_after (Sized n) (λ w. decimal n ++ (codes "\n" ++ sized n w)) (λ bytes. literal_at (decimal n) bytes >>= λ number. literal_at (codes "\n") number >>= sized_at n) (codes "world ")
+      (exact_after (Sized n) (λ w. codes "\n" ++ sized n w) (λ bytes. literal_at (codes "\n") bytes >>= sized_at n) (decimal n)
+      (exact_after (Sized n) (sized n) (sized_at n) (codes "\n") (exact_sized n))))
+    where
+      back : (w : World) → HasCopies n w → Sized n w
+      back w h =
+          let f = from_world w h.0 in
+          let e : f.0 ≡ n = sym f.2.behind_is.count ∙ h.1 in
+          subst (λ (m : ℕ). Sized m w) e f.2
+
+  pub copied_cut : (n : ℕ) (bytes : List ℕ) → length bytes < 2 ^ 64 - 1 → copied_world_at cut sig names n bytes ≡ world_of_copies_at sig names n bytes
+  unfolding copied_world_at
+  copied_cut n bytes short =
+      let from : List ℕ → Read World = λ l. sizes_at names.sorts l >>= λ sizes. structure_at cut sig names sizes.0 n sizes.1 in
+      bind_same (literal_at (codes "world ") bytes) (λ word. literal_at (decimal n) word >>= λ number. literal_at (codes "\n") number >>= from) (λ word. literal_at (decimal n) word >>= λ number. literal_at (codes "\n") number >>= sized_at n)
+      (λ word e. bind_same (literal_at (decimal n) word) (λ number. literal_at (codes "\n") number >>= from) (λ number. literal_at (codes "\n") number >>= sized_at n)
+      (λ number f. bind_same (literal_at (codes "\n") number) from (sized_at n)
+      (λ rest g. sized_cut n rest (omega (arith, literal_shorter (codes "world ") bytes word e, literal_shorter (decimal n) word number f, literal_shorter (codes "\n") number rest g)))))

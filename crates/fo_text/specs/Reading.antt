@@ -1,5 +1,6 @@
 -- Reading the text of a world from left to right, with the first byte at which it can't go on.
-use Rattle.std.specs.Prelude.{◌≡◌, ℕ, zero, suc, ◌+◌, ◌-◌, ◌*◌, ◌^◌, min, Bool, true, false, cond, not, ◌&&◌, ◌||◌, nat_le, ◌==◌, if◌then◌else◌, List, [], ◌∷◌, length, map, codes, decimal, Result, Ok, Err, ⊤}
+use Rattle.std.specs.Prelude.{◌≡◌, ℕ, zero, suc, ◌+◌, ◌-◌, ◌*◌, ◌^◌, min, Bool, true, false, cond, not, ◌&&◌, ◌||◌, nat_le, ◌==◌, if◌then◌else◌, List, [], ◌∷◌, ◌++◌, length, map, codes, decimal, slice_index_or, Result, Ok, Err, ⊤}
+use Rattle.std.specs.List.{range_with_len}
 use Rattle.fo_core.specs.declared.signature.Symbol.{Symbol}
 use Rattle.fo_core.specs.declared.signature.Sig.{Sig}
 use Rattle.fo_core.specs.declared.names.Names.{Names}
@@ -161,3 +162,53 @@ world_at see sig names bytes = do
   n ← count_at bytes
   sizes ← sizes_at names.sorts n.1
   structure_at see sig names sizes.0 n.0 sizes.1
+
+-- ---- one of several texts
+
+-- what the first of these found, or what the other did, or the later of both faults
+abbrev pub or_else : {A : Type 0} → Read A → Read A → Read A
+or_else (Ok x) other = Ok x
+or_else (Err left) (Ok y) = Ok y
+or_else (Err left) (Err least) = Err (min left least)
+
+-- the option, if its text stands here
+abbrev pub option_at : {X : Type 0} → (X → List ℕ) → X → List ℕ → Read X
+option_at text x bytes = literal_at (text x) bytes >>= λ rest. Ok (x, rest)
+
+-- the option whose text stands here; else the first byte at which no option's text goes on
+unfoldable pub choose : {X : Type 0} → (X → List ℕ) → List X → List ℕ → Read X
+choose text [] bytes = Err (length bytes)
+choose text (x ∷ options) bytes = or_else (option_at text x bytes) (choose text options bytes)
+
+-- one of these texts behind a mark and a word, told by its place
+unfoldable pub choice_at : List ℕ → List ℕ → List (List ℕ) → List ℕ → Read ℕ
+choice_at mark word texts bytes =
+    choose (λ k. mark ++ (word ++ slice_index_or texts k [])) (range_with_len 0 (length texts)) bytes
+
+-- ---- items, each behind a keyword, and then another keyword
+
+-- up to n - 1 items
+unfoldable pub many_by : {A : Type 0} → List ℕ → List ℕ → (List ℕ → Read A) → ℕ → List ℕ → Read (List A)
+many_by stop go item zero bytes = Err 0
+many_by stop go item (suc n) bytes = do
+  word ← choice_at [] [] (stop ∷ go ∷ []) bytes
+  if word.0 == 0 then Ok ([], word.1)
+      else (item word.1 >>= λ x. many_by stop go item n x.1 >>= λ xs. Ok (x.0 ∷ xs.0, xs.1))
+
+-- items, each behind the keyword `go`, and then the keyword `stop`; no list is longer than the bytes
+abbrev pub many : {A : Type 0} → List ℕ → List ℕ → (List ℕ → Read A) → List ℕ → Read (List A)
+many stop go item bytes = many_by stop go item (length bytes + 1) bytes
+
+-- ---- a world of a known number of copies
+
+unfoldable pub copied_world_at : (Line → Line) → Sig → Names → ℕ → List ℕ → Read World
+copied_world_at see sig names copies bytes = do
+  word ← literal_at (codes "world ") bytes
+  number ← literal_at (decimal copies) word
+  rest ← literal_at (codes "\n") number
+  sizes ← sizes_at names.sorts rest
+  structure_at see sig names sizes.0 copies sizes.1
+
+-- the world of so many copies
+abbrev pub world_of_copies_at : Sig → Names → ℕ → List ℕ → Read World
+world_of_copies_at = copied_world_at (λ line. line)

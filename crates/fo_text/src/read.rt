@@ -2,11 +2,12 @@ ghost use Rattle.std.specs.Prelude.{◌≡◌, ◌++◌, ◌^◌, ◌<◌, ◌�
 ghost use Rattle.fo_core.specs.declared.world.World.{World};
 ghost use Rattle.fo_core.specs.Sorted.{IsSig};
 ghost use Rattle.fo_text.specs.Texts.{NamesEach, HasText, text_of, StopsAt};
+ghost use Rattle.fo_text.specs.Reading.{Gives, world_of_copies_at};
 ghost use Rattle.fo_text.specs.Answers.{IsUnlessMemory, IfBad};
 
 use crate::fault::TextFault;
 use crate::halt::Halt;
-use crate::reading::read_world;
+use crate::reading::{read_copied_world, read_world};
 use fo_core::{Names, Sig, World};
 use std::alloc::Global;
 
@@ -49,4 +50,24 @@ pub fn world_read(
         Err(Halt::Memory) => Err(TextFault::Memory),
         Err(Halt::Fault(left)) => Err(TextFault::Bad((bytes.len() - left) as u32)),
     }
+}
+
+/// Reads the text of a world of so many copies from the front of the bytes, as a part of a longer
+/// text. It answers the world and what stands after its text.
+///
+/// The signature has to be well-sorted, with a name for each sort and symbol. A fault tells how many
+/// bytes are left at the first one by which the text of no world of so many copies goes on. Memory is
+/// taken for what was read, and not for what the text announces.
+pub fn world_of_copies<'a>(
+    alloc: Global,
+    sig: &Sig,
+    names: &Names,
+    copies: u32,
+    bytes: &'a [u8],
+) -> Result<(World, &'a [u8]), Halt>
+    requires signature { IsSig sig.now }
+    requires named { NamesEach sig.now names.now }
+    ensures { Gives (λ x. (x.0, x.1.now)) result (world_of_copies_at sig.now names.now copies bytes.now) }
+{
+    read_copied_world(alloc, sig, names, copies, bytes)
 }

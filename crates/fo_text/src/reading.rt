@@ -2,7 +2,7 @@ ghost use Rattle.std.specs.Prelude.{◌≡◌, ◌==◌, if◌then◌else◌, �
 ghost use Rattle.std.specs.List.{All};
 ghost use Rattle.fo_core.specs.Sorted.{IsSig};
 ghost use Rattle.fo_text.specs.Texts.{NamesEach};
-ghost use Rattle.fo_text.specs.Reading.{Gives, values_at, table_at, tables_at, copy_at, copies_at, size_at, sizes_at, count_at, tables_of, structure_at, world_at, cut};
+ghost use Rattle.fo_text.specs.Reading.{Gives, values_at, table_at, tables_at, copy_at, copies_at, size_at, sizes_at, count_at, tables_of, structure_at, world_at, copied_world_at, cut};
 
 use crate::halt::Halt;
 use crate::lines::{Line, symbol_lines};
@@ -209,4 +209,25 @@ pub fn read_world<'a>(
     let (count, rest) = read_count(bytes)?;
     let (sizes, rest) = read_sizes(alloc, names.sorts.as_slice(), rest)?;
     read_structure(alloc, sig, names, sizes, count, rest)
+}
+
+/// Reads a world of so many copies.
+#[tactic(auto, unfolding(crate::specs::Reading::copied_world_at))]
+pub fn read_copied_world<'a>(
+    alloc: Global,
+    sig: &Sig,
+    names: &Names,
+    copies: u32,
+    bytes: &'a [u8],
+) -> Result<(World, &'a [u8]), Halt>
+    requires signature { IsSig sig.now }
+    requires named { NamesEach sig.now names.now }
+    ensures { Gives (λ x. (x.0, x.1.now)) result (copied_world_at cut sig.now names.now copies bytes.now) }
+{
+    let mut buffer = Buffer::new();
+    let rest = literal(bytes, b"world ")?;
+    let rest = literal(rest, buffer.format(copies).as_bytes())?;
+    let rest = literal(rest, b"\n")?;
+    let (sizes, rest) = read_sizes(alloc, names.sorts.as_slice(), rest)?;
+    read_structure(alloc, sig, names, sizes, copies, rest)
 }

@@ -1,0 +1,15 @@
+pub mod ClauseArguments
+pub mod ClauseChains
+pub mod ClauseHeads
+pub mod ClauseLoops
+pub mod ClauseOptions
+pub mod ClauseSorts
+pub mod ClauseVariables
+pub mod ClauseWords
+pub mod Loops
+pub mod ReadLeaves
+pub mod ReadLinks
+pub mod ReadReports
+pub mod ReadVerdicts
+pub mod Waiting
+pub mod WriteParts

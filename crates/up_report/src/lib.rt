@@ -1,0 +1,24 @@
+//! The text of a report: written, and read exactly.
+#![tactic(auto)]
+
+mod clause_binders;
+mod clause_denials;
+mod clause_heads;
+mod clause_reading;
+mod clause_symbols;
+mod clause_variables;
+mod clause_words;
+mod clause_writing;
+mod clauses_reading;
+mod fault;
+mod laws;
+mod leave_reading;
+mod link_reading;
+mod verdict_reading;
+mod whole_reading;
+mod writing;
+
+pub use fault::ReportFault;
+pub use laws::{no_report_begins_another, one_report_has_a_text, reading_stops_at_one_place};
+pub use whole_reading::read;
+pub use writing::write;
