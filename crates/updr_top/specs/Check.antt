@@ -23,7 +23,12 @@ use Rattle.updr_top.specs.Reported.{Reported, if_ordered, over_report}
 
 -- `check MODEL REPORT --weight W`
 abbrev pub check_form : Form
-check_form = record { name = codes "check"; files = codes "MODEL" ∷ codes "REPORT" ∷ []; numbers = weight_option ∷ []; flags = [] }
+check_form = record {
+  name = codes "check";
+  files = codes "MODEL" ∷ codes "REPORT" ∷ [];
+  numbers = weight_option ∷ [];
+  flags = [];
+}
 
 -- ---- what is printed
 
@@ -57,13 +62,15 @@ Claims (verdict.Spent steps) = ⊥
 Claims (verdict.Over kind weight) = ⊥
 Claims _ = ⊤
 
--- what it says is so, and none of the queries that are to have no world for that is above the limit
+-- what it says is so, and none of the queries that are to have no world for that is above the
+-- limit
 pub record IsConfirmed (sys : System) (limit : ℕ) (told : Verdict) : Type 0 where
   pub claims : Claims told
   pub holds : Holds sys told
   pub light : All (IsLight sys.sig limit) (judge_queries sys told)
 
--- it isn't so, and this spot is the first that fails, as is found by queries that aren't above the limit
+-- it isn't so, and this spot is the first that fails, as is found by queries that aren't above the
+-- limit
 pub record IsWrongAt (sys : System) (limit : ℕ) (told : Verdict) (spot : Spot) : Type 0 where
   pub not_so : ¬ Holds sys told
   pub first : IsJudged sys limit told (judged.Wrong spot)
@@ -85,14 +92,18 @@ abbrev pub wrong : ℕ → Row Reported (Unit {0})
 wrong limit = record {
   status = status.Wrong;
   comes = λ r. (spot : Spot) × IsWrongAt r.given.meant.sys limit r.report.verdict spot;
-  says = λ r text left. (spot : Spot) × IsWrongAt r.given.meant.sys limit r.report.verdict spot × (text ≡ wrong_text r.report.verdict spot);
+  says = λ r text left.
+      (spot : Spot) × IsWrongAt r.given.meant.sys limit r.report.verdict spot
+      × (text ≡ wrong_text r.report.verdict spot);
 }
 
 abbrev pub too_heavy : ℕ → Row Reported (Unit {0})
 too_heavy limit = record {
   status = status.Over;
   comes = λ r. (weight : ℕ) × IsOverAt r.given.meant.sys limit r.report.verdict weight;
-  says = λ r text left. (weight : ℕ) × IsOverAt r.given.meant.sys limit r.report.verdict weight × (text ≡ over_check_text weight);
+  says = λ r text left.
+      (weight : ℕ) × IsOverAt r.given.meant.sys limit r.report.verdict weight
+      × (text ≡ over_check_text weight);
 }
 
 abbrev pub nothing : Row Reported (Unit {0})

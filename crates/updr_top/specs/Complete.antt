@@ -33,10 +33,12 @@ pub record IsGoodCall {L : Type 0} (c : Command L) (P : System → Names → Con
   pub means : MeansText (content_at contents 0) sys names
   pub is : P sys names contents
 
--- the second file is a report over the model's signature, and where its verdict is judged by queries, the
--- system is stratified for them
+-- the second file is a report over the model's signature, and where its verdict is judged by
+-- queries, the system is stratified for them
 abbrev pub HasJudgeable : System → Names → Contents → Type 0
-HasJudgeable sys names contents = (r : Report) × IsReport sys.sig names (content_at contents 1) r × (IsAsked r.verdict → IsStratified sys purpose.Infer)
+HasJudgeable sys names contents =
+    (r : Report) × IsReport sys.sig names (content_at contents 1) r
+    × (IsAsked r.verdict → IsStratified sys purpose.Infer)
 
 -- the system is stratified for this purpose
 abbrev pub IsStratifiedFor : Purpose → System → Names → Contents → Type 0
@@ -44,6 +46,9 @@ IsStratifiedFor purpose sys names contents = IsStratified sys purpose
 
 -- The statuses of good calls. Want of memory, 16, is always free.
 pub record IsComplete (words : List (List ℕ)) (call : Call (Unit {0})) : Type 0 where
-  pub check : IsGoodCall check_command HasJudgeable words call → (call.number ≡ 0) ⊎ (call.number ≡ 5) ⊎ (call.number ≡ 6) ⊎ (call.number ≡ 8) ⊎ (call.number ≡ 16)
+  pub check :
+      IsGoodCall check_command HasJudgeable words call
+      → (call.number ≡ 0) ⊎ (call.number ≡ 5) ⊎ (call.number ≡ 6) ⊎ (call.number ≡ 8)
+      ⊎ (call.number ≡ 16)
   pub verify : IsGoodCall verify_command (IsStratifiedFor purpose.Verify) words call → (call.number ≡ 0) ⊎ (call.number ≡ 5) ⊎ (call.number ≡ 7) ⊎ (call.number ≡ 16)
   pub bmc : IsGoodCall bmc_command (IsStratifiedFor purpose.Infer) words call → (call.number ≡ 0) ⊎ (call.number ≡ 1) ⊎ (call.number ≡ 5) ⊎ (call.number ≡ 16)

@@ -38,14 +38,17 @@ HasNoReport g = (r : Report) → ¬ IsSecond g r
 -- the line and the column at which a report isn't read
 abbrev pub not_read_words : List ℕ → ℕ → List ℕ
 not_read_words bytes place =
-    codes "report " ++ (place_words (line_at bytes place) (column_at bytes place) ++ codes ": not read")
+    codes "report "
+    ++ (place_words (line_at bytes place) (column_at bytes place) ++ codes ": not read")
 
 -- a text that is none is refused, and the first place is told at which no report goes on
 abbrev pub not_read : Row Given (Unit {0})
 not_read = record {
   status = ReportNotRead;
   comes = HasNoReport;
-  says = λ g words left. (place : ℕ) × StopsAt g.meant.sys.sig g.meant.names (content_at g.contents 1) place × (words ≡ not_read_words (content_at g.contents 1) place);
+  says = λ g words left.
+      (place : ℕ) × StopsAt g.meant.sys.sig g.meant.names (content_at g.contents 1) place
+      × (words ≡ not_read_words (content_at g.contents 1) place);
 }
 
 -- a text that is no report is refused; else the rows over the report
@@ -74,7 +77,9 @@ abbrev pub not_ordered : Row Reported (Unit {0})
 not_ordered = record {
   status = NotStratified;
   comes = λ r. IsAsked r.report.verdict × (¬ IsStratified r.given.meant.sys Infer);
-  says = λ r words left. (cycle : List ℕ) × IsUnstratified r.given.meant.sys Infer cycle × (words ≡ unstratified_words r.given.meant.names cycle);
+  says = λ r words left.
+      (cycle : List ℕ) × IsUnstratified r.given.meant.sys Infer cycle
+      × (words ≡ unstratified_words r.given.meant.names cycle);
 }
 
 -- such a system is refused; else the rows over the report

@@ -70,7 +70,8 @@ fn unsafe_run(alloc: Global, meant: &Elaborated, world: World) -> Result<Told<()
     requires model { IsModel meant.now.sys meant.now.names }
     requires fits { Fits meant.now.sys.sig world }
     requires few { length world.copies ≤ 65 }
-    ensures { IfOk result (λ end. end ≡ printing Unsafe (verdict_text meant.now (verdict.Unsafe world)) None) }
+    ensures { IfOk result (λ end. end
+        ≡ printing Unsafe (verdict_text meant.now (verdict.Unsafe world)) None) }
 {
     go_through(world.sizes.as_slice());
     reported(alloc, meant, Status::Unsafe, Verdict::Unsafe(world))

@@ -33,7 +33,8 @@ fn init_words(alloc: Global, verdict: &Verdict, number: u32) -> Result<String, A
 
 /// How a spot of the verdict is told.
 fn spot_words(alloc: Global, verdict: &Verdict, spot: Spot) -> Result<String, AllocError>
-    ensures { IfOk result (λ words. string_bytes words ≡ spot_words verdict.now spot.what spot.number) }
+    ensures { IfOk result (λ words. string_bytes words
+        ≡ spot_words verdict.now spot.what spot.number) }
 {
     let number = spot.number;
     match spot.what {
@@ -81,7 +82,8 @@ fn too_heavy(alloc: Global, weight: u64) -> Result<Told<()>, AllocError>
 
 /// The end that tells that the verdict says nothing of the model.
 fn nothing(alloc: Global) -> Result<Told<()>, AllocError>
-    ensures { IfOk result (λ end. end ≡ printing status.NothingToCheck (codes "nothing to check\n") None) }
+    ensures { IfOk result (λ end. end
+        ≡ printing status.NothingToCheck (codes "nothing to check\n") None) }
 {
     let line = b"nothing to check\n".to_vec(alloc)?;
     Ok(Told::printing(alloc, Status::NothingToCheck, line))
