@@ -1,5 +1,5 @@
 -- All spots of links pass exactly where the links are a chain and no violating run is as short.
-use Rattle.std.proofs.Common.{◌≡◌, ℕ, zero, suc, ◌+◌, ◌-◌, ◌<◌, ◌≤◌, List, [], ◌∷◌, ◌++◌, length, refl, sym, subst, ◌∙◌, arith}
+use Rattle.std.proofs.Common.{◌≡◌, ℕ, zero, suc, ◌+◌, ◌-◌, ◌<◌, List, [], ◌∷◌, length, refl, sym, subst, arith}
 use Rattle.std.specs.List.{All}
 use Rattle.std.proofs.lemmas.List.Elements.{All-nil, All-cons, All-head, All-tail, All-append}
 use Rattle.fo_core.specs.declared.system.System.{System}
@@ -13,7 +13,7 @@ use Rattle.up_claims.specs.Chains.{IsFirstLink, IsNextLink, GoesOn, IsChain}
 use Rattle.up_claims.specs.Verdicts.{Holds}
 use Rattle.up_cert.specs.declared.spot.Spot.{Spot}
 use Rattle.up_cert.specs.declared.spot.What.TheVariants as what
-use Rattle.up_cert.specs.VerdictSpots.{Passes, ChainPasses, spots_of, spot, each_below, links_below, link_spots, origin_what, link_at, last_copy, HasState, ComesFrom, Embeds, EndsBadly}
+use Rattle.up_cert.specs.VerdictSpots.{Passes, ChainPasses, spots_of, spot, links_below, link_spots, origin_what, link_at, last_copy, HasState, ComesFrom, Embeds, EndsBadly}
 use Rattle.up_cert.proofs.Numbered.{each-from, each-to}
 
 -- the state before link k of links that go on from one, and the state after all of them

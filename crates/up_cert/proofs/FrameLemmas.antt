@@ -1,6 +1,6 @@
 -- The frame below a clause's level: without one where that is 1, and else the cubes of the clauses from
 -- the level before.
-use Rattle.std.proofs.Common.{◌≡◌, ℕ, zero, suc, ◌+◌, ◌-◌, ◌<◌, ◌≤◌, List, [], ◌∷◌, ◌++◌, Bool, true, false, true≢false, cond, Option, None, Some, length, get_or, take, refl, sym, ap, subst, ◌∙◌, arith}
+use Rattle.std.proofs.Common.{◌≡◌, ℕ, zero, suc, ◌-◌, ◌<◌, ◌≤◌, List, [], ◌∷◌, Bool, true, false, true≢false, cond, None, Some, length, refl, sym, ◌∙◌, arith}
 use Rattle.std.specs.List.{All, filter}
 use Rattle.std.specs.Prelude.{nat_le}
 use Rattle.std.proofs.lemmas.Bool.{leb-true, le-leb}
@@ -12,8 +12,6 @@ use Rattle.up_diagram.specs.Cubes.{Meets}
 use Rattle.up_claims.specs.Frames.{Avoids}
 use Rattle.up_cert.specs.Clauses.{IsExcluded}
 use Rattle.up_cert.specs.VerdictSpots.{clause_at, no_clause}
-use Rattle.fo_core.specs.declared.signature.Sig.{Sig}
-use Rattle.up_diagram.specs.declared.cube.Cube.{Cube}
 use Rattle.up_claims.specs.declared.verdict.Kept.{Kept}
 use Rattle.up_claims.specs.Verdicts.{cubes_from, printed_frame, frame_below}
 

@@ -1,5 +1,5 @@
 -- Things that are asked for by number, one after the other; and clauses by their numbers.
-use Rattle.std.proofs.Common.{◌≡◌, ℕ, ◌+◌, ◌<◌, ◌≤◌, List, Some, length, arith, below_more}
+use Rattle.std.proofs.Common.{ℕ, ◌+◌, ◌<◌, ◌≤◌, List, Some, length, arith, below_more}
 use Rattle.std.specs.List.{All}
 use Rattle.fo_core.specs.declared.query.Query.{Query}
 use Rattle.fo_core.specs.declared.signature.Sig.{Sig}

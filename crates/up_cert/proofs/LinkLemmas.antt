@@ -1,5 +1,5 @@
 -- How the origin of a link comes about, by its number.
-use Rattle.std.proofs.Common.{◌≡◌, ◌↔◌, ℕ, zero, suc, ◌+◌, ◌-◌, ◌<◌, List, Bool, Result, IfOk, arith}
+use Rattle.std.proofs.Common.{◌↔◌, ℕ, zero, suc, ◌-◌, ◌<◌, List, Bool, Result, IfOk, arith}
 use Rattle.std.specs.Prelude.{IsTrue}
 use Rattle.std.specs.declared.alloc.AllocError.{AllocError}
 use Rattle.fo_core.specs.declared.system.System.{System}

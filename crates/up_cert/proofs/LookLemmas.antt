@@ -1,14 +1,12 @@
 -- What is found of spots that have no queries, where they are looked at.
-use Rattle.std.proofs.Common.{◌≡◌, ◌↔◌, ℕ, zero, suc, ◌+◌, ◌-◌, ◌<◌, ◌≤◌, List, [], ◌∷◌, ◌++◌, Option, None, Some, length, refl, sym, ap, subst, ◌∙◌, arith}
+use Rattle.std.proofs.Common.{◌≡◌, ◌↔◌, ℕ, zero, suc, ◌+◌, ◌<◌, List, [], ◌∷◌, ◌++◌, Option, None, Some, length, refl, sym, subst, arith}
 use Rattle.std.specs.Prelude.{IsNone, IfSome}
 use Rattle.std.specs.List.{All}
 use Rattle.std.proofs.lemmas.List.Elements.{All-nil, All-cons, All-append}
-use Rattle.fo_core.specs.declared.query.Query.{Query}
-use Rattle.fo_core.specs.declared.signature.Sig.{Sig}
 use Rattle.fo_core.specs.declared.system.System.{System}
 use Rattle.fo_core.specs.declared.world.World.{World}
 use Rattle.fo_core.specs.Finds.{IsLight}
-use Rattle.fo_core.specs.Runs.{IsState, IsInitial, IsStep, IsViolatingRun}
+use Rattle.fo_core.specs.Runs.{IsState, IsInitial, IsViolatingRun}
 use Rattle.up_claims.specs.declared.verdict.Link.{Link}
 use Rattle.up_claims.specs.declared.verdict.Verdict.{Verdict}
 use Rattle.up_claims.specs.declared.verdict.Verdict.TheVariants as verdict
@@ -16,7 +14,7 @@ use Rattle.up_cert.specs.declared.judged.Judged.TheVariants as judged
 use Rattle.up_cert.specs.declared.spot.Spot.{Spot}
 use Rattle.up_cert.specs.declared.spot.What.{What}
 use Rattle.up_cert.specs.declared.spot.What.TheVariants as what
-use Rattle.up_cert.specs.Judging.{Clears, IsCleared, IsDenied, IsRefuted, IsSpotReached, FailsFirst, IsFound}
+use Rattle.up_cert.specs.Judging.{Clears, IsRefuted, FailsFirst, IsFound}
 use Rattle.up_cert.specs.Spots.{FailsFirst as FailsOfRun, IsFirstSpot}
 use Rattle.up_cert.specs.Trying.{Looks, look_told}
 use Rattle.up_cert.specs.VerdictSpots.{Passes, ChainPasses, queries_at, spots_of, spot, each_below, spots_below, link_spots, origin_what, link_at, last_copy, HasState, Embeds}

@@ -5,13 +5,11 @@ use Rattle.std.specs.declared.alloc.AllocError.{AllocError}
 use Rattle.std.proofs.lemmas.Bool.{cases_lt}
 use Rattle.std.proofs.lemmas.List.Elements.{All-nil, All-cons, All-push}
 use Rattle.std.proofs.lemmas.List.FromFn.{map-range_with_len_more}
-use Rattle.fo_core.specs.declared.finder.Found.TheVariants as found
 use Rattle.fo_core.specs.declared.formula.Formula.{Formula}
 use Rattle.fo_core.specs.declared.query.Query.{Query}
 use Rattle.fo_core.specs.declared.signature.Sig.{Sig}
 use Rattle.fo_core.specs.declared.system.System.{System}
-use Rattle.fo_core.specs.Finds.{HasWorld, HasNoWorld, IsLight, IsAnswer}
-use Rattle.fo_core.specs.QueryWeight.{query_weight}
+use Rattle.fo_core.specs.Finds.{HasNoWorld, IsLight}
 use Rattle.fo_core.proofs.ListFacts.{all_mapped, all_range}
 use Rattle.up_claims.specs.Claims.{unroll_claims}
 use Rattle.up_claims.specs.RunQueries.{run_query, run_queries, HasNoRunOf}
@@ -19,7 +17,7 @@ use Rattle.up_claims.specs.Verdicts.{HasNoRunWithin}
 use Rattle.up_claims.proofs.UnrollLemmas.{meaning-unroll}
 use Rattle.up_cert.specs.declared.answer.Answer.{Answer}
 use Rattle.up_cert.specs.declared.answer.Answer.TheVariants as answer
-use Rattle.up_cert.specs.Judging.{ComesTo, FindsWorld, FindsHeavy, IsRefuted, IsCleared, IsDenied}
+use Rattle.up_cert.specs.Judging.{ComesTo, FindsWorld, IsRefuted}
 use Rattle.up_cert.specs.Trying.{IsTried, IsAnswered}
 
 module _ (sig : Sig) (limit : ℕ) where

@@ -1,5 +1,5 @@
 -- What is told by looking at the worlds of links and leaves.
-use Rattle.std.proofs.Common.{◌≡◌, ◌↔◌, ℕ, zero, suc, Bool, true, false, true≢false, ◌+◌, ◌-◌, ◌<◌, ◌≤◌, List, [], ◌∷◌, ◌==◌, Option, None, Some, Result, Ok, Err, IfOk, length, refl, sym, ap, subst, ◌∙◌, arith}
+use Rattle.std.proofs.Common.{◌≡◌, ◌↔◌, ℕ, zero, suc, Bool, true, false, true≢false, ◌-◌, ◌<◌, ◌≤◌, List, [], ◌∷◌, ◌==◌, Option, None, Some, Result, Ok, Err, IfOk, length, refl, sym, subst, ◌∙◌, arith}
 use Rattle.std.specs.Prelude.{IsTrue, MatchOption, is_some, slice_get}
 use Rattle.std.specs.List.{All}
 use Rattle.std.specs.declared.alloc.AllocError.{AllocError}
@@ -7,10 +7,10 @@ use Rattle.std.proofs.lemmas.Option.{get_or_from_slice_get}
 use Rattle.fo_core.specs.declared.system.System.{System}
 use Rattle.fo_core.specs.declared.world.World.{World}
 use Rattle.fo_core.specs.RunLaws.{IsLoneState, IsLoneInitial}
-use Rattle.fo_core.specs.Runs.{IsState, IsInitial, IsStep, Violates, alone}
-use Rattle.fo_core.specs.Tables.{Fits, IsReadable}
+use Rattle.fo_core.specs.Runs.{IsState, IsInitial, IsStep, alone}
+use Rattle.fo_core.specs.Tables.{IsReadable}
 use Rattle.fo_core.specs.Truth.{Truth}
-use Rattle.fo_core.proofs.Answered.{never, answered, false_from}
+use Rattle.fo_core.proofs.Answered.{answered}
 use Rattle.fo_eval.specs.Asked.{CanJudge, IsFirstFalse, IsFirstStep}
 use Rattle.fo_eval.specs.Values.{Values}
 use Rattle.up_diagram.specs.declared.cube.Cube.{Cube}

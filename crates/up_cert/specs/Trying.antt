@@ -1,6 +1,5 @@
 -- How what a verdict asks for is tried: one thing, or one after the other.
-use Rattle.std.specs.Prelude.{◌≡◌, ℕ, ◌<◌, ◌≤◌, List, Option, None, Some, ⊤}
-use Rattle.std.specs.List.{All}
+use Rattle.std.specs.Prelude.{◌≡◌, ℕ, ◌<◌, List, Option, None, Some}
 use Rattle.fo_core.specs.declared.query.Query.{Query}
 use Rattle.fo_core.specs.declared.signature.Sig.{Sig}
 use Rattle.fo_core.specs.declared.system.System.{System}

@@ -1,4 +1,3 @@
-use Rattle.std.proofs.Common.{[], ◌∷◌}
 use Rattle.fo_core.specs.Finds.{HasNoWorld}
 use Rattle.up_claims.specs.Blocked.{NoInitial}
 use Rattle.up_claims.specs.InferQueries.{root_query}

@@ -1,5 +1,5 @@
-use Rattle.std.proofs.Common.{◌≡◌, ◌+◌, ℕ, ◌∙◌, subst, arith}
-use Rattle.up_cert.proofs.TriedLemmas.{IsSoFar, so-far-none, so-far-more, runs-fail, runs-heavy, runs-pass}
+use Rattle.std.proofs.Common.{◌≡◌, ◌+◌, ◌∙◌, subst, arith}
+use Rattle.up_cert.proofs.TriedLemmas.{IsSoFar, so-far-more, runs-fail, runs-heavy, runs-pass}
 use Rattle.up_cert.proofs.asking.try_runs.Goals as goal
 
 pub returns-in-Fails-clause-tried : goal.returns-in-Fails-clause-tried

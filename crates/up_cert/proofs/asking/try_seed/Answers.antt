@@ -1,4 +1,4 @@
-use Rattle.std.proofs.Common.{[], ◌∷◌}
+use Rattle.std.proofs.Common.{[]}
 use Rattle.std.proofs.lemmas.List.Elements.{All-nil}
 use Rattle.fo_core.specs.Finds.{HasNoWorld}
 use Rattle.up_diagram.specs.Cubes.{IsCube}

@@ -1,4 +1,4 @@
-use Rattle.std.proofs.Common.{[], ◌∷◌, option_map}
+use Rattle.std.proofs.Common.{option_map}
 use Rattle.fo_core.specs.Finds.{HasNoWorld}
 use Rattle.up_claims.specs.Blocked.{NoStep}
 use Rattle.up_claims.specs.InferQueries.{before_query}

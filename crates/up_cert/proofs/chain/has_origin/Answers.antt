@@ -1,4 +1,4 @@
-use Rattle.std.proofs.Common.{◌≡◌, ◌-◌, ◌<◌, ℕ, arith}
+use Rattle.std.proofs.Common.{◌<◌, arith}
 use Rattle.up_cert.proofs.LinkLemmas.{origin-told}
 use Rattle.up_cert.proofs.chain.has_origin.Goals as goal
 

@@ -1,4 +1,4 @@
-use Rattle.std.proofs.Common.{◌≡◌, Some, sym, subst}
+use Rattle.std.proofs.Common.{Some, sym, subst}
 use Rattle.up_claims.specs.declared.verdict.Verdict.TheVariants.{NoUniversal}
 use Rattle.fo_core.proofs.Answered.{false_from}
 use Rattle.up_cert.specs.declared.spot.What.{What}

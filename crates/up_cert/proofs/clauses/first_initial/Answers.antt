@@ -1,4 +1,4 @@
-use Rattle.std.proofs.Common.{◌≡◌, ◌≤◌, ◌<◌, ℕ, ◌∙◌, [], ◌∷◌, length, arith}
+use Rattle.std.proofs.Common.{◌≤◌, ◌<◌, ℕ, ◌∙◌, [], ◌∷◌, length, arith}
 use Rattle.up_claims.specs.Blocked.{NoInitial}
 use Rattle.up_claims.specs.InferQueries.{root_query}
 use Rattle.up_cert.specs.VerdictSpots.{clause_at}

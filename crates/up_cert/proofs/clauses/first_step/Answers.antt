@@ -1,4 +1,4 @@
-use Rattle.std.proofs.Common.{◌≡◌, ◌≤◌, ◌<◌, ℕ, ◌∙◌, [], ◌∷◌, Some, length, arith}
+use Rattle.std.proofs.Common.{◌≤◌, ◌<◌, ℕ, ◌∙◌, [], ◌∷◌, Some, length, arith}
 use Rattle.up_claims.specs.Blocked.{NoStep}
 use Rattle.up_claims.specs.InferQueries.{before_query}
 use Rattle.up_cert.specs.VerdictSpots.{clause_at}

@@ -1,8 +1,7 @@
-use Rattle.std.proofs.Common.{◌≡◌, ◌-◌, ◌<◌, [], ◌∷◌, List, Option, None, Some, IfOk, sym, subst, ◌∙◌, arith}
+use Rattle.std.proofs.Common.{◌-◌, [], ◌∷◌, List, Option, IfOk, sym, subst}
 use Rattle.up_diagram.specs.declared.cube.Cube.{Cube}
 use Rattle.up_claims.specs.Blocked.{NoStep}
 use Rattle.up_claims.specs.InferQueries.{before_query}
-use Rattle.up_claims.specs.Verdicts.{cubes_from}
 use Rattle.up_claims.proofs.JudgingLemmas.{known-from}
 use Rattle.up_cert.specs.Trying.{IsTried}
 use Rattle.up_cert.proofs.FrameLemmas.{below-none, below-some}

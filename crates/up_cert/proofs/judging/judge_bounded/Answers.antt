@@ -1,4 +1,3 @@
-use Rattle.std.proofs.Common.{◌≡◌}
 use Rattle.up_cert.proofs.VerdictsFound.{frames-left, frames-wrong}
 use Rattle.up_cert.proofs.judging.judge_bounded.Goals as goal
 

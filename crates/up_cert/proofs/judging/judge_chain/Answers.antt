@@ -1,6 +1,4 @@
-use Rattle.std.proofs.Common.{◌≡◌, ◌-◌, length, arith}
 use Rattle.fo_core.proofs.Answered.{false_from}
-use Rattle.up_claims.specs.Chains.{steps_of_chain}
 use Rattle.up_cert.proofs.VerdictsFound.{chain-link, chain-safety, chain-run}
 use Rattle.up_cert.proofs.judging.judge_chain.Goals as goal
 

@@ -1,11 +1,10 @@
-use Rattle.std.proofs.Common.{◌≡◌, ◌<◌, ◌+◌, ◌-◌, ◌∷◌, [], ℕ, None, length, refl, sym, ◌∙◌, subst, arith}
+use Rattle.std.proofs.Common.{◌≡◌, ◌+◌, ◌∷◌, [], ℕ, None, refl, sym, ◌∙◌, subst, arith}
 use Rattle.fo_core.proofs.Answered.{false_from}
-use Rattle.up_claims.specs.declared.verdict.Leave.{Leave}
 use Rattle.up_claims.specs.declared.verdict.Verdict.TheVariants.{Bounded}
 use Rattle.up_claims.specs.Verdicts.{IsLeave}
 use Rattle.up_cert.specs.declared.spot.What.TheVariants as what
 use Rattle.up_cert.specs.Trying.{Looks}
-use Rattle.up_cert.specs.VerdictSpots.{spot, leave_at, leaves_to}
+use Rattle.up_cert.specs.VerdictSpots.{spot, leaves_to}
 use Rattle.up_cert.proofs.LookLemmas.{looks-more, looks-wrong, look-passes, look-fails}
 use Rattle.up_cert.proofs.PassLemmas.{leaf}
 use Rattle.up_cert.proofs.leaving.first_unleft.Goals as goal

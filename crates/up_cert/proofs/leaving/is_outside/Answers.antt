@@ -1,4 +1,4 @@
-use Rattle.std.proofs.Common.{◌≡◌, ◌<◌, ◌≤◌, ℕ, length, arith, below_more}
+use Rattle.std.proofs.Common.{◌<◌, ◌≤◌, ℕ, length, arith, below_more}
 use Rattle.fo_core.proofs.Answered.{never, always, false_from}
 use Rattle.up_claims.specs.Frames.{Avoids}
 use Rattle.up_claims.specs.Verdicts.{cubes_from}

@@ -1,4 +1,4 @@
-use Rattle.std.proofs.Common.{◌≡◌, ◌<◌, ℕ}
+use Rattle.std.proofs.Common.{◌<◌, ℕ}
 use Rattle.up_cert.specs.Clauses.{IsExcluded}
 use Rattle.up_cert.specs.VerdictSpots.{clause_at}
 use Rattle.up_cert.proofs.leaving.is_outside.Given as goal
