@@ -1,5 +1,5 @@
 -- Variables and arguments are read exactly.
-use Rattle.std.proofs.Common.{◌≡◌, ℕ, zero, suc, ◌+◌, ◌-◌, ◌^◌, ◌<◌, ◌≤◌, Bool, true, false, cond, eqb, List, [], ◌∷◌, ◌++◌, length, get_or, map, flat_map, codes, decimal, Result, Ok, Err, refl, sym, ap, subst, ◌∙◌, append_assoc, arith}
+use Rattle.std.proofs.Common.{◌≡◌, ℕ, zero, suc, ◌^◌, ◌<◌, Bool, true, false, cond, eqb, List, [], ◌∷◌, ◌++◌, length, map, flat_map, codes, decimal, Ok, Err, refl, sym, ap, ◌∙◌, append_assoc, arith}
 use Rattle.std.specs.Prelude.{⊤}
 use Rattle.std.specs.List.{AllByRecursion, AllZip}
 use Rattle.std.proofs.Math.Dec.{eqb-suc-zero}
@@ -10,7 +10,7 @@ use Rattle.fo_text.proofs.Choices.{Among, Apart, text_at, exact_choose, exact_ch
 use Rattle.up_diagram.specs.Cubes.{HasSort}
 use Rattle.up_report.specs.declared.clause_heads.Ending.{Ending}
 use Rattle.up_report.specs.declared.clause_heads.Ending.TheVariants.{Argument, LastArgument, Denial}
-use Rattle.up_report.specs.ClauseTexts.{joined, variable_text, applied_text}
+use Rattle.up_report.specs.ClauseTexts.{variable_text, applied_text}
 use Rattle.up_report.specs.ClauseReading.{texts, ended_variable, variable_at, argument_ending, arguments_at}
 use Rattle.up_report.proofs.ClauseWords.{some_text}
 use Rattle.up_report.proofs.ClauseVariables.{options, IsOption, to_option, from_option, variables_apart, variable_is}
@@ -105,11 +105,20 @@ applied_words name v vs =
 abbrev pub HaveVariables : List ℕ → List ℕ → Type 0
 HaveVariables sorts wanted = AllByRecursion (λ s. (v : ℕ) × HasSort sorts v s) wanted
 
-then_others : (sorts ss : List ℕ) (r : Read (ℕ × ℕ)) → (r >>= λ v. arguments_at sorts ss v.1 >>= λ vs. Ok (v.0.0 ∷ vs.0, vs.1)) ≡ ((r >>= λ v. Ok (v.0.0, v.1)) >>= λ w. arguments_at sorts ss w.1 >>= λ vs. Ok (w.0 ∷ vs.0, vs.1))
+abbrev first_value : Read (ℕ × ℕ) → Read ℕ
+first_value r = r >>= λ v. Ok (v.0.0, v.1)
+
+abbrev with_others : List ℕ → List ℕ → Read ℕ → Read (List ℕ)
+with_others sorts ss r = r >>= λ w. arguments_at sorts ss w.1 >>= λ vs. Ok (w.0 ∷ vs.0, vs.1)
+
+abbrev valued_others : List ℕ → List ℕ → Read (ℕ × ℕ) → Read (List ℕ)
+valued_others sorts ss r = r >>= λ v. arguments_at sorts ss v.1 >>= λ vs. Ok (v.0.0 ∷ vs.0, vs.1)
+
+then_others : (sorts ss : List ℕ) (r : Read (ℕ × ℕ)) → valued_others sorts ss r ≡ with_others sorts ss (first_value r)
 then_others sorts ss (Ok v) = refl
 then_others sorts ss (Err left) = refl
 
-arguments_cons : (sorts : List ℕ) (s : ℕ) (ss bytes : List ℕ) → arguments_at sorts (s ∷ ss) bytes ≡ (argument_at sorts (argument_ending (length ss)) s bytes >>= λ w. arguments_at sorts ss w.1 >>= λ vs. Ok (w.0 ∷ vs.0, vs.1))
+arguments_cons : (sorts : List ℕ) (s : ℕ) (ss bytes : List ℕ) → arguments_at sorts (s ∷ ss) bytes ≡ with_others sorts ss (argument_at sorts (argument_ending (length ss)) s bytes)
 unfolding arguments_at
 arguments_cons sorts s ss bytes = then_others sorts ss (variable_at sorts (argument_ending (length ss)) s bytes)
 
@@ -117,17 +126,20 @@ arguments_nil : (sorts bytes : List ℕ) → arguments_at sorts [] bytes ≡ Ok 
 unfolding arguments_at
 arguments_nil sorts bytes = refl
 
-one_text : (sorts : List ℕ) (s : ℕ) (bytes : List ℕ) → arguments_at sorts (s ∷ []) bytes ≡ (argument_at sorts LastArgument s bytes >>= λ w. Ok (w.0 ∷ [], w.1))
-one_text sorts s bytes = arguments_cons sorts s [] bytes ∙ by (argument_at sorts LastArgument s bytes)
-  where
-    by : (r : Read ℕ) → (r >>= λ w. arguments_at sorts [] w.1 >>= λ vs. Ok (w.0 ∷ vs.0, vs.1)) ≡ (r >>= λ w. Ok (w.0 ∷ [], w.1))
-    by (Ok w) = ap (λ (q : Read (List ℕ)). q >>= λ vs. Ok (w.0 ∷ vs.0, vs.1)) (arguments_nil sorts w.1)
-    by (Err left) = refl
+abbrev alone : Read ℕ → Read (List ℕ)
+alone r = r >>= λ w. Ok (w.0 ∷ [], w.1)
 
-more_text : (sorts : List ℕ) (s t : ℕ) (ss bytes : List ℕ) → arguments_at sorts (s ∷ t ∷ ss) bytes ≡ (argument_at sorts Argument s bytes >>= λ w. arguments_at sorts (t ∷ ss) w.1 >>= λ vs. Ok (w.0 ∷ vs.0, vs.1))
+no_others : (sorts : List ℕ) (r : Read ℕ) → with_others sorts [] r ≡ alone r
+no_others sorts (Ok w) = ap (λ (q : Read (List ℕ)). q >>= λ vs. Ok (w.0 ∷ vs.0, vs.1)) (arguments_nil sorts w.1)
+no_others sorts (Err left) = refl
+
+one_text : (sorts : List ℕ) (s : ℕ) (bytes : List ℕ) → arguments_at sorts (s ∷ []) bytes ≡ alone (argument_at sorts LastArgument s bytes)
+one_text sorts s bytes = arguments_cons sorts s [] bytes ∙ no_others sorts (argument_at sorts LastArgument s bytes)
+
+more_text : (sorts : List ℕ) (s t : ℕ) (ss bytes : List ℕ) → arguments_at sorts (s ∷ t ∷ ss) bytes ≡ with_others sorts (t ∷ ss) (argument_at sorts Argument s bytes)
 more_text sorts s t ss bytes =
     arguments_cons sorts s (t ∷ ss) bytes
-    ∙ ap (λ (c : Bool). argument_at sorts (cond c LastArgument Argument) s bytes >>= λ w. arguments_at sorts (t ∷ ss) w.1 >>= λ vs. Ok (w.0 ∷ vs.0, vs.1)) (eqb-suc-zero (length ss))
+    ∙ ap (λ (c : Bool). with_others sorts (t ∷ ss) (argument_at sorts (cond c LastArgument Argument) s bytes)) (eqb-suc-zero (length ss))
 
 pub exact_arguments : (sorts : List ℕ) → length sorts < 2 ^ 64 → (s : ℕ) (ss : List ℕ) → HaveVariables sorts (s ∷ ss) → Exact (λ vs. AllZip (HasSort sorts) vs (s ∷ ss)) arguments_text (arguments_at sorts (s ∷ ss))
 exact_arguments sorts few s [] have =

@@ -1,5 +1,5 @@
 -- Items of which each tells whether it is the last are read exactly.
-use Rattle.std.proofs.Common.{◌≡◌, ℕ, zero, suc, ◌+◌, ◌-◌, ◌<◌, ◌≤◌, inl, inr, Bool, true, false, cond, List, [], ◌∷◌, ◌++◌, length, Result, Ok, Err, refl, sym, ap, subst, ◌∙◌, append_assoc, length-append, arith}
+use Rattle.std.proofs.Common.{◌≡◌, ℕ, zero, suc, ◌+◌, ◌<◌, inl, inr, Bool, true, false, cond, List, [], ◌∷◌, ◌++◌, length, Ok, Err, refl, sym, ap, subst, ◌∙◌, append_assoc, length-append, arith}
 use Rattle.std.proofs.lemmas.List.{append-nil}
 use Rattle.fo_text.specs.Reading.{Read, ◌>>=◌}
 use Rattle.fo_text.proofs.Exact.{Exact, IsFault, FailsBehind, FailsBehind-along, bind_ok, bind_err, ok_is, err_is}
@@ -169,3 +169,11 @@ module _ {A : Type 0} (Fits : ℕ → A × Bool → Type 0) (text : ℕ → A ×
       again = again k;
       fault = λ bytes left e. fault (length bytes + 1) k bytes left (omega arith) e;
     }
+
+-- a first item that can't be read
+pub chain_fails : {A : Type 0} (item : ℕ → List ℕ → Read (A × Bool)) (k : ℕ) (bytes : List ℕ) (left : ℕ) → item k bytes ≡ Err left → chain item k bytes ≡ Err left
+unfolding chain_by
+chain_fails {A} item k bytes left e =
+    let more : length bytes + 1 ≡ suc (length bytes) = omega arith in
+    ap (λ (n : ℕ). chain_by item n k bytes) more
+    ∙ ap (λ (r : Read (A × Bool)). r >>= λ x. cond x.0.1 (Ok (x.0.0 ∷ [], x.1)) (chain_by item (length bytes) (k + 1) x.1 >>= λ xs. Ok (x.0.0 ∷ xs.0, xs.1))) e

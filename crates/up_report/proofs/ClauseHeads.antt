@@ -1,22 +1,22 @@
 -- Heads of denials: which there are, and that their texts tell them apart.
-use Rattle.std.proofs.Common.{◌≡◌, ℕ, zero, suc, ◌+◌, ◌-◌, ◌^◌, ◌<◌, ◌≤◌, ◌⊎◌, inl, inr, min, Bool, true, false, cond, eqb, not, ◌&&◌, ◌||◌, List, [], ◌∷◌, ◌++◌, length, get_or, map, flat_map, codes, decimal, Result, Ok, Err, refl, sym, ap, subst, ◌∙◌, append_assoc, arith}
+use Rattle.std.proofs.Common.{◌≡◌, ℕ, zero, suc, ◌^◌, ◌<◌, ◌≤◌, inl, inr, min, Bool, true, false, cond, eqb, not, List, [], ◌∷◌, ◌++◌, length, get_or, map, codes, decimal, Result, Ok, Err, refl, sym, ap, subst, ◌∙◌, append_assoc, arith}
 use Rattle.std.specs.Prelude.{⊤}
 use Rattle.std.specs.List.{range_with_len}
 use Rattle.std.proofs.lemmas.Bool.{cases_lt}
 use Rattle.fo_core.specs.declared.signature.Sig.{Sig}
 use Rattle.fo_core.specs.declared.names.Names.{Names}
 use Rattle.fo_core.specs.Tables.{symbol_at}
-use Rattle.fo_core.specs.Named.{IsName, AreNames, AreDistinct, reserved_words}
+use Rattle.fo_core.specs.Named.{IsName, reserved_words}
 use Rattle.fo_text.specs.Reading.{Read, ◌>>=◌, literal_at, or_else, option_at, choose, choice_at}
 use Rattle.fo_text.proofs.Choices.{Among, Apart, choose_cons, choose_append, choose_takes, choose_finds, choose_one, choose_not, among_left, among_right, among_either, among_flat, among_flattened, among_map, among_mapped, among_range, ranged, differ, differ_apart, text_at, texts_apart}
 use Rattle.fo_text.proofs.Stopping.{literal_found}
 use Rattle.up_report.specs.declared.clause_heads.Head.{Head}
 use Rattle.up_report.specs.declared.clause_heads.Head.TheVariants.{Forall, Nothing, Equal, Applied}
 use Rattle.up_report.specs.declared.clause_heads.Ending.{Ending}
-use Rattle.up_report.specs.declared.clause_heads.Ending.TheVariants.{Argument, LastArgument, Denial, Equality, Arguments, Unequal, Sort, LastSort}
+use Rattle.up_report.specs.declared.clause_heads.Ending.TheVariants.{Denial, Equality, Arguments, Unequal}
 use Rattle.up_report.specs.ClauseTexts.{CanName, symbol_name, mark}
 use Rattle.up_report.specs.ClauseReading.{texts, places, ended, may_stand, name_ending, symbol_heads, signed_heads, equal_heads, heads, first_heads, head_text, IsHeadOf}
-use Rattle.up_report.proofs.ClauseOptions.{BlocksTried, blocks_found, block_found, block_fails}
+use Rattle.up_report.proofs.ClauseOptions.{block_found, block_fails}
 use Rattle.up_report.proofs.ClauseWords.{AreHigh, Ends, split_words, ends_append, few_texts, text_ends, are_apart_texts, decimal_high, decimal_same, word_high, word_some}
 
 module _ (sig : Sig) (names : Names) where
@@ -238,7 +238,7 @@ module _ (sig : Sig) (names : Names) where
     words_in : (x y : Head) (p q : List ℕ) → IsFormed x → IsFormed y → sign_of x ≡ sign_of y → (word_of x ++ end_of x) ++ p ≡ (word_of y ++ end_of y) ++ q → AreParts x y p q
     words_in x y p q f g sign e =
         let s = split_words (word_of x) (word_of y) (end_of x ++ p) (end_of y ++ q) f.high g.high (ends_append (end_of x) p f.ends) (ends_append (end_of y) q g.ends)
-            (sym (append_assoc (word_of x) (end_of x) p) ∙ e ∙ append_assoc (word_of y) (end_of y) q) in
+        (sym (append_assoc (word_of x) (end_of x) p) ∙ e ∙ append_assoc (word_of y) (end_of y) q) in
         record { sign = sign; word = s.0; end = s.1 }
 
     -- no word begins with `!`

@@ -1,5 +1,5 @@
 -- Options that a loop tries one block after the other.
-use Rattle.std.proofs.Common.{◌≡◌, ℕ, zero, suc, ◌+◌, ◌-◌, ◌<◌, ◌≤◌, inl, inr, min, Bool, true, false, cond, eqb, List, [], ◌∷◌, ◌++◌, length, get_or, map, flat_map, Result, Ok, Err, refl, sym, ap, subst, ◌∙◌, arith}
+use Rattle.std.proofs.Common.{◌≡◌, ℕ, ◌+◌, ◌-◌, ◌<◌, ◌≤◌, inl, inr, min, List, [], ◌∷◌, ◌++◌, length, map, flat_map, Result, Ok, Err, refl, sym, ap, subst, ◌∙◌, arith}
 use Rattle.std.specs.List.{range_with_len}
 use Rattle.fo_text.specs.Reading.{Read, ◌>>=◌, literal_at, or_else, option_at, choose, choice_at}
 use Rattle.fo_text.proofs.Choices.{Among, Tried, tried_none, tried_more, tried_found, tried_all, choose_nil, choose_cons, choice_is, places_on, places_end, ranged}

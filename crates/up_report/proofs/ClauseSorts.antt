@@ -1,9 +1,9 @@
 -- The sorts of a clause's variables, told by their names.
-use Rattle.std.proofs.Common.{◌≡◌, ℕ, List, [], map, get_or, Ok, Err, refl, ◌∙◌, flat_map}
+use Rattle.std.proofs.Common.{◌≡◌, ℕ, List, [], get_or, Ok, Err, refl, flat_map}
 use Rattle.std.specs.List.{range_with_len}
 use Rattle.fo_core.specs.declared.signature.Sig.{Sig}
 use Rattle.fo_core.specs.declared.names.Names.{Names}
-use Rattle.fo_text.specs.Reading.{Read, choose, choice_at}
+use Rattle.fo_text.specs.Reading.{choose, choice_at}
 use Rattle.up_report.specs.ClauseReading.{texts, sort_ending, ended_sort, sort_options, sort_at}
 use Rattle.up_report.proofs.ClauseOptions.{block_found, block_fails}
 

@@ -1,14 +1,14 @@
 -- Variables of a sort, told by their numbers.
-use Rattle.std.proofs.Common.{◌≡◌, ℕ, zero, suc, ◌+◌, ◌-◌, ◌^◌, ◌<◌, ◌≤◌, ◌⊎◌, inl, inr, min, Bool, true, false, cond, eqb, List, [], ◌∷◌, ◌++◌, length, get_or, map, flat_map, decimal, Result, Ok, Err, refl, sym, ap, subst, ◌∙◌, arith}
+use Rattle.std.proofs.Common.{◌≡◌, ℕ, ◌^◌, ◌<◌, Bool, true, false, cond, eqb, List, [], length, get_or, map, flat_map, decimal, Ok, Err, refl, sym, ap, subst, ◌∙◌, arith}
 use Rattle.std.specs.List.{range_with_len}
 use Rattle.std.proofs.lemmas.Bool.{eq-eqb, ne_eqb, eqb-true}
-use Rattle.fo_text.specs.Reading.{Read, literal_at, choose, choice_at}
+use Rattle.fo_text.specs.Reading.{choose, choice_at}
 use Rattle.fo_text.proofs.Choices.{Among, Apart, choose_finds, choose_takes, choice_is, among_flat, among_flattened, among_map, among_mapped, among_range, ranged}
 use Rattle.fo_text.proofs.Stopping.{literal_found}
 use Rattle.up_diagram.specs.Cubes.{HasSort}
 use Rattle.up_report.specs.declared.clause_heads.Ending.{Ending}
 use Rattle.up_report.specs.ClauseReading.{texts, places, ended, variable_options, ended_variable, variable_at}
-use Rattle.up_report.proofs.ClauseOptions.{BlocksTried, blocks_found, blocks_more, blocks_skip, block_found, block_fails}
+use Rattle.up_report.proofs.ClauseOptions.{block_found, block_fails}
 use Rattle.up_report.proofs.ClauseWords.{same_ends, decimal_high, decimal_same}
 
 module _ (sorts : List ℕ) (ending : Ending) (s : ℕ) where
@@ -82,4 +82,4 @@ module _ (sorts : List ℕ) (ending : Ending) (s : ℕ) where
       let among : Among options (v, e) = to_option (v, e) (record { variable = record { within = within; sort = is }; end = omega (arith, (ranged 0 (length (texts ending)) e t.0).1) }) in
       variable_is bytes
       ∙ choose_finds (ended_variable ending) options bytes (v, e) rest t.1
-          (λ y q k l. variables_apart few y (v, e) k among q rest (sym (literal_found (ended_variable ending y) bytes q l) ∙ literal_found (ended_variable ending (v, e)) bytes rest t.1)) among
+      (λ y q k l. variables_apart few y (v, e) k among q rest (sym (literal_found (ended_variable ending y) bytes q l) ∙ literal_found (ended_variable ending (v, e)) bytes rest t.1)) among

@@ -1,11 +1,10 @@
 -- Words of a clause, and what ends them, can't be mistaken for one another.
-use Rattle.std.proofs.Common.{◌≡◌, ℕ, zero, suc, ◌+◌, ◌-◌, ◌%◌, ◌/◌, ◌^◌, ◌<◌, ◌≤◌, ◌⊎◌, inl, inr, Bool, true, false, cond, eqb, List, [], ◌∷◌, ◌++◌, length, get_or, map, flat_map, codes, decimal, Result, Ok, Err, refl, sym, ap, subst, ◌∙◌, append_assoc, arith}
-use Rattle.std.specs.List.{AllByRecursion, range_with_len}
-use Rattle.std.proofs.lemmas.Bool.{eq-eqb, ne_eqb, eqb-true}
-use Rattle.std.proofs.lemmas.Fmt.{decimal_digit, decimal_step, decimal_by_steps}
+use Rattle.std.proofs.Common.{◌≡◌, ℕ, zero, suc, ◌+◌, ◌-◌, ◌%◌, ◌^◌, ◌<◌, ◌≤◌, inl, inr, true, List, [], ◌∷◌, ◌++◌, length, decimal, refl, sym, ap, ◌∙◌, append_assoc, arith}
+use Rattle.std.specs.List.{AllByRecursion}
+use Rattle.std.proofs.lemmas.Fmt.{decimal_by_steps}
 use Rattle.std.proofs.lemmas.List.Elements.{recursion_from_All}
-use Rattle.fo_core.specs.Named.{BeginsWord, ContinuesWord, IsWord, IsName}
-use Rattle.fo_text.specs.Reading.{Read, number_at}
+use Rattle.fo_core.specs.Named.{BeginsWord, ContinuesWord, IsWord}
+use Rattle.fo_text.specs.Reading.{number_at}
 use Rattle.fo_text.proofs.Exact.{ok_is}
 use Rattle.fo_text.proofs.Numbers.{exact_number}
 use Rattle.fo_text.proofs.Choices.{are_apart, text_at, texts_apart}
@@ -146,6 +145,6 @@ pub same_ends : (ending : Ending) (v w p q : List ℕ) (e f : ℕ) → AreHigh v
     → (v ++ text_at (texts ending) e) ++ p ≡ (w ++ text_at (texts ending) f) ++ q → (v ≡ w) × (e ≡ f)
 same_ends ending v w p q e f a b h k is =
     let s = split_words v w (text_at (texts ending) e ++ p) (text_at (texts ending) f ++ q) a b
-        (ends_append (text_at (texts ending) e) p (text_ends ending e h)) (ends_append (text_at (texts ending) f) q (text_ends ending f k))
-        (sym (append_assoc v (text_at (texts ending) e) p) ∙ is ∙ append_assoc w (text_at (texts ending) f) q) in
+    (ends_append (text_at (texts ending) e) p (text_ends ending e h)) (ends_append (text_at (texts ending) f) q (text_ends ending f k))
+    (sym (append_assoc v (text_at (texts ending) e) p) ∙ is ∙ append_assoc w (text_at (texts ending) f) q) in
     (s.0, texts_apart (texts ending) (are_apart_texts ending) e f h k p q s.1)

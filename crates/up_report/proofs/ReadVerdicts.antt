@@ -28,9 +28,9 @@ use Rattle.up_report.specs.Ranges.{HasCopies, HasLeaves, HasVerdict}
 use Rattle.up_report.specs.Reading.{links_at, clauses_at, one_clause_at, some_clauses_at, all_leaves_at, safe_at, unsafe_at, chain_at, frames_at, bounded_at, spent_at, kind_words, kind_of, over_at, no_run_at, verdict_words, other_at, ended_at, told_at, word_at, verdict_at}
 use Rattle.up_report.specs.Texts.{clauses_text, links_text, leaves_text, kind_word, verdict_word, told_text}
 use Rattle.fo_text.specs.Reading.{choice_at, world_of_copies_at}
+use Rattle.up_report.proofs.ClauseExact.{exact_clause}
 use Rattle.up_report.proofs.ReadLinks.{LinksFit, exact_world_of_copies, exact_links, to_links, from_links}
 use Rattle.up_report.proofs.ReadLeaves.{LeavesFit, from_number, exact_all_leaves, all_leaves_words}
-use Rattle.up_report.proofs.Waiting.{exact_clause}
 
 -- the place of the verdict's word
 abbrev pub number_of : Verdict → ℕ
@@ -112,27 +112,27 @@ module _ (sig : Sig) (names : Names) (is_sig : IsSig sig) (can : CanName sig nam
   abbrev pub apart : List ℕ → Type 0
   apart stop = are_apart (stop ∷ codes "clause " ∷ []) ≡ true
 
-  exact_clauses : (least most : ℕ) (stop : List ℕ) → least ≤ most → apart stop → Exact (Clauses least most) (λ cs. clauses_text names cs ++ stop) (clauses_at sig names least most stop)
-  exact_clauses least most stop range differ =
+  exact_clauses : (least most : ℕ) (stop : List ℕ) → least ≤ most → most < 2 ^ 64 → apart stop → Exact (Clauses least most) (λ cs. clauses_text names cs ++ stop) (clauses_at sig names least most stop)
+  exact_clauses least most stop range small differ =
       let Fits : Kept → Type 0 = HasClause sig least most in
       let text : Kept → List ℕ = clause_text names in
       let item : List ℕ → Read Kept = clause_at sig names least most in
       let go = codes "clause " in
       exact_words (Clauses least most) (Clauses least most) (many_text Fits text item stop go) (λ cs. clauses_text names cs ++ stop) (clauses_at sig names least most stop) (clauses_at sig names least most stop)
       (λ bytes. refl) (λ cs h. (h, sym (many_words Fits text item stop go cs))) (λ cs h. h)
-      (exact_many Fits text item stop go differ (exact_clause sig names is_sig can least most range))
+      (exact_many Fits text item stop go differ (exact_clause sig names can least most range small))
 
   record OneClause (least most : ℕ) (cs : List Kept) : Type 0 where
     pub one : length cs ≡ 1
     pub are : Clauses least most cs
 
-  exact_one_clause : (least most : ℕ) → least ≤ most → Exact (OneClause least most) (clauses_text names) (one_clause_at sig names least most)
+  exact_one_clause : (least most : ℕ) → least ≤ most → most < 2 ^ 64 → Exact (OneClause least most) (clauses_text names) (one_clause_at sig names least most)
   unfolding one_clause_at
-  exact_one_clause least most range =
+  exact_one_clause least most range small =
       let item : List ℕ → Read (List Kept) = λ bytes. clause_at sig names least most bytes >>= λ x. Ok (x.0 ∷ [], x.1) in
       let text : List Kept → List ℕ = λ cs. flat_map (clause_text names) cs in
       let made = exact_map (HasClause sig least most) (clause_text names) (clause_at sig names least most) (OneClause least most) text item (λ kept. kept ∷ [])
-      (λ bytes. refl) (λ kept h. (record { one = refl; are = (h, tt) }, append-nil (clause_text names kept))) back (exact_clause sig names is_sig can least most range) in
+      (λ bytes. refl) (λ kept h. (record { one = refl; are = (h, tt) }, append-nil (clause_text names kept))) back (exact_clause sig names can least most range small) in
       exact_words (OneClause least most) (OneClause least most) (λ cs. codes "clause " ++ text cs) (clauses_text names) (one_clause_at sig names least most) (one_clause_at sig names least most) (λ bytes. refl)
       (λ cs h. (h, words cs h.one)) (λ cs h. h) (exact_after (OneClause least most) text item (codes "clause ") made)
     where
@@ -150,12 +150,12 @@ module _ (sig : Sig) (names : Names) (is_sig : IsSig sig) (can : CanName sig nam
     pub some : 1 ≤ length cs
     pub are : Clauses least most cs
 
-  pub exact_some_clauses : (least most : ℕ) (stop : List ℕ) → least ≤ most → apart stop → Exact (SomeClauses least most) (λ cs. clauses_text names cs ++ stop) (some_clauses_at sig names least most stop)
+  pub exact_some_clauses : (least most : ℕ) (stop : List ℕ) → least ≤ most → most < 2 ^ 64 → apart stop → Exact (SomeClauses least most) (λ cs. clauses_text names cs ++ stop) (some_clauses_at sig names least most stop)
   unfolding some_clauses_at
-  exact_some_clauses least most stop range differ =
+  exact_some_clauses least most stop range small differ =
       exact_pair (OneClause least most) (clauses_text names) (one_clause_at sig names least most) (λ one. Clauses least most) (λ one cs. clauses_text names cs ++ stop) (λ one. clauses_at sig names least most stop)
       (SomeClauses least most) (λ cs. clauses_text names cs ++ stop) (some_clauses_at sig names least most stop) (λ one cs. one ++ cs)
-      (λ bytes. refl) fits back (exact_one_clause least most range) (λ one h. exact_clauses least most stop range differ)
+      (λ bytes. refl) fits back (exact_one_clause least most range small) (λ one h. exact_clauses least most stop range small differ)
     where
       fits : (one cs : List Kept) → OneClause least most one → Clauses least most cs → SomeClauses least most (one ++ cs) × (clauses_text names (one ++ cs) ++ stop ≡ clauses_text names one ++ (clauses_text names cs ++ stop))
       fits [] cs h k = absurd (omega (arith, h.one))
@@ -168,8 +168,8 @@ module _ (sig : Sig) (names : Names) (is_sig : IsSig sig) (can : CanName sig nam
       back [] h = absurd (omega (arith, h.some))
       back (kept ∷ cs) h = (kept ∷ [], cs, record { one = refl; are = (h.are.0, tt) }, h.are.1, refl)
 
-  pub some_are_read : (last : ℕ) (bytes : List ℕ) (cs : List Kept) (rest : List ℕ) → some_clauses_at sig names 1 (last + 1) (codes "leave 1 ") bytes ≡ Ok (cs, rest) → 1 ≤ length cs
-  some_are_read last bytes cs rest e = ((exact_some_clauses 1 (last + 1) (codes "leave 1 ") (omega arith) refl).takes bytes cs rest e).1.some
+  pub some_are_read : (last : ℕ) → last ≤ 64 → (bytes : List ℕ) (cs : List Kept) (rest : List ℕ) → some_clauses_at sig names 1 (last + 1) (codes "leave 1 ") bytes ≡ Ok (cs, rest) → 1 ≤ length cs
+  some_are_read last few bytes cs rest e = ((exact_some_clauses 1 (last + 1) (codes "leave 1 ") (omega arith) (omega (arith, few)) refl).takes bytes cs rest e).1.some
 
   -- ---- safe
 
@@ -183,7 +183,7 @@ module _ (sig : Sig) (names : Names) (is_sig : IsSig sig) (can : CanName sig nam
       exact_pair (IsBetween 1 64) (number_text 10) (number_at 1 64 10) (λ frame. Clauses (frame + 1) 65) (λ frame cs. clauses_text names cs ++ codes "numbers ") (λ frame. clauses_at sig names (frame + 1) 65 (codes "numbers "))
       (Of 0) ended (safe_at sig names) Safe
       (λ bytes. refl) (λ frame cs h k. ((refl, (h, All-from_recursion (HasClause sig (frame + 1) 65) cs k)), append_assoc (number_text 10 frame) (clauses_text names cs) (codes "numbers ")))
-      back (exact_steps 1 64 (omega arith) (omega arith)) (λ frame h. exact_clauses (frame + 1) 65 (codes "numbers ") (omega (arith, h.1)) refl)
+      back (exact_steps 1 64 (omega arith) (omega arith)) (λ frame h. exact_clauses (frame + 1) 65 (codes "numbers ") (omega (arith, h.1)) (omega arith) refl)
     where
       back : (v : Verdict) → Of 0 v → (frame : ℕ) × (cs : List Kept) × IsBetween 1 64 frame × Clauses (frame + 1) 65 cs × (Safe frame cs ≡ v)
       back (Safe frame cs) h = (frame, cs, h.1.0, recursion_from_All (HasClause sig (frame + 1) 65) cs h.1.1, refl)
@@ -271,7 +271,7 @@ module _ (sig : Sig) (names : Names) (is_sig : IsSig sig) (can : CanName sig nam
       exact_pair (SomeClauses 1 (last + 1)) (λ cs. clauses_text names cs ++ codes "leave 1 ") (some_clauses_at sig names 1 (last + 1) (codes "leave 1 "))
       (λ cs. LeavesFit sig (length cs) last 1) (λ cs. from_number sig names) (λ cs. all_leaves_at sig names (length cs) last)
       (FramesFit last) frames_text (frames_at sig names last) (Bounded last)
-      (λ bytes. refl) fits back (exact_some_clauses 1 (last + 1) (codes "leave 1 ") (omega arith) refl) (λ cs h. exact_all_leaves sig names is_sig named (length cs) h.some last range.0)
+      (λ bytes. refl) fits back (exact_some_clauses 1 (last + 1) (codes "leave 1 ") (omega arith) (omega (arith, range.1)) refl) (λ cs h. exact_all_leaves sig names is_sig named (length cs) h.some last range.0)
     where
       fits : (cs : List Kept) (leaves : List Leave) → SomeClauses 1 (last + 1) cs → LeavesFit sig (length cs) last 1 leaves → FramesFit last (Bounded last cs leaves) × (clauses_text names cs ++ leaves_text sig names leaves ≡ (clauses_text names cs ++ codes "leave 1 ") ++ from_number sig names leaves)
       fits cs leaves h k = (

@@ -18,11 +18,7 @@ use up_diagram::Flat;
 
 /// Reads that this variable doesn't differ from one of its sort, and whether the line ends.
 #[tactic(auto, unfolding(crate::specs::ClauseReading::differ_at))]
-fn read_differ<'a>(
-    sorts: &[u32],
-    i: u32,
-    bytes: &'a [u8],
-) -> Result<(Flat, bool, &'a [u8]), Halt>
+fn read_differ<'a>(sorts: &[u32], i: u32, bytes: &'a [u8]) -> Result<(Flat, bool, &'a [u8]), Halt>
     requires few { length sorts.now < 2 ^ 32 }
     requires within { i < length sorts.now }
     ensures { Gives (λ x. ((x.0, x.1), x.2.now)) result (differ_at sorts.now i bytes.now) }

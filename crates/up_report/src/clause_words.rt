@@ -45,7 +45,10 @@ pub fn guess(bytes: &[u8]) -> u32 {
 
 /// What was read, where other heads failed before where so many bytes are left: of two faults the
 /// later one stands.
-pub fn later<'a>(left: usize, read: Result<(Head, &'a [u8]), Halt>) -> Result<(Head, &'a [u8]), Halt>
+pub fn later<'a>(
+    left: usize,
+    read: Result<(Head, &'a [u8]), Halt>,
+) -> Result<(Head, &'a [u8]), Halt>
     ensures { (r : Read Head) → Gives (λ x. (x.0, x.1.now)) read.entry r → Gives (λ x. (x.0, x.1.now)) result (or_else (Err left) r) }
 {
     match read {

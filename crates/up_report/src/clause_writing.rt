@@ -1,10 +1,10 @@
 //! A clause is written.
 
-ghost use Rattle.std.specs.Prelude.{◌≡◌, ◌++◌, ◌+◌, ◌<◌, ◌≤◌, [], ◌∷◌, length, map, codes, OnOk};
-ghost use Rattle.std.specs.List.{All};
+ghost use Rattle.std.specs.Prelude.{◌≡◌, ◌++◌, ◌<◌, [], length, map, codes, slice_index_or, OnOk};
+ghost use Rattle.std.specs.List.{All, flat_map};
 ghost use Rattle.fo_text.specs.Texts.{NamesEach};
 ghost use Rattle.up_diagram.specs.Cubes.{IsCube, IsKnown};
-ghost use Rattle.up_report.specs.ClauseTexts.{joined, variable_text, applied_text, symbol_name, mark, denial_text, denials_text, binder_texts, binders_text, clause_text};
+ghost use Rattle.up_report.specs.ClauseTexts.{joined, variable_text, applied_text, symbol_name, denial_text, denials_text, binder_texts, binders_text, clause_text};
 
 use fo_core::{Names, Sig};
 use itoa::Buffer;
@@ -21,17 +21,28 @@ fn push_variable(into: &mut Vec<u8>, v: u32) -> Result<(), AllocError>
     into.extend_from_slice(buffer.format(v).as_bytes())
 }
 
+/// Writes variables, each after a comma.
+fn push_more_variables(into: &mut Vec<u8>, variables: &[u32]) -> Result<(), AllocError>
+    ensures { OnOk result (into.new.items ≡ into.old.items ++ flat_map (λ v. codes ", " ++ variable_text v) variables.now) }
+{
+    'each: for v in variables {
+        into.extend_from_slice(b", ")?;
+        push_variable(into, *v)?;
+    }
+    Ok(())
+}
+
 /// Writes variables with commas between them.
 fn push_variables(into: &mut Vec<u8>, variables: &[u32]) -> Result<(), AllocError>
     ensures { OnOk result (into.new.items ≡ into.old.items ++ joined (codes ", ") (map variable_text variables.now)) }
 {
-    'each: for (i, v) in variables.iter().enumerate() {
-        if i > 0 {
-            into.extend_from_slice(b", ")?;
+    match variables {
+        [] => Ok(()),
+        [first, others @ ..] => {
+            push_variable(into, *first)?;
+            push_more_variables(into, others)
         }
-        push_variable(into, *v)?;
     }
-    Ok(())
 }
 
 /// Writes a symbol with variables.
@@ -55,12 +66,7 @@ fn push_applied(
 }
 
 /// Writes the negation of a literal.
-fn push_denial(
-    into: &mut Vec<u8>,
-    sig: &Sig,
-    names: &Names,
-    lit: &Flat,
-) -> Result<(), AllocError>
+fn push_denial(into: &mut Vec<u8>, sig: &Sig, names: &Names, lit: &Flat) -> Result<(), AllocError>
     requires named { NamesEach sig.now names.now }
     requires known { IsKnown sig.now lit.now }
     ensures { OnOk result (into.new.items ≡ into.old.items ++ denial_text names.now lit.now) }
@@ -85,6 +91,24 @@ fn push_denial(
     }
 }
 
+/// Writes the negations of literals, each after a bar.
+fn push_more_denials(
+    into: &mut Vec<u8>,
+    sig: &Sig,
+    names: &Names,
+    lits: &[Flat],
+) -> Result<(), AllocError>
+    requires named { NamesEach sig.now names.now }
+    requires known { All (IsKnown sig.now) lits.now }
+    ensures { OnOk result (into.new.items ≡ into.old.items ++ flat_map (λ lit. codes " | " ++ denial_text names.now lit) lits.now) }
+{
+    'each: for lit in lits {
+        into.extend_from_slice(b" | ")?;
+        push_denial(into, sig, names, lit)?;
+    }
+    Ok(())
+}
+
 /// Writes the negations of literals.
 fn push_denials(
     into: &mut Vec<u8>,
@@ -99,19 +123,14 @@ fn push_denials(
     if lits.is_empty() {
         return into.extend_from_slice(b"false");
     }
-    'each: for (i, lit) in lits.iter().enumerate() {
-        if i > 0 {
-            into.extend_from_slice(b" | ")?;
-        }
-        push_denial(into, sig, names, lit)?;
-    }
-    Ok(())
+    push_denial(into, sig, names, &lits[0])?;
+    push_more_denials(into, sig, names, &lits[1..])
 }
 
 /// Writes variable k with its sort.
 fn push_binder(into: &mut Vec<u8>, names: &Names, k: usize, sort: u32) -> Result<(), AllocError>
     requires within { sort < length names.now.sorts }
-    ensures { OnOk result (into.new.items ≡ into.old.items ++ joined [] (binder_texts names.now k (sort ∷ []))) }
+    ensures { OnOk result (into.new.items ≡ into.old.items ++ (variable_text k ++ codes ":" ++ slice_index_or names.now.sorts sort [])) }
 {
     let mut buffer = Buffer::new();
     into.push(b'V')?;
@@ -120,22 +139,32 @@ fn push_binder(into: &mut Vec<u8>, names: &Names, k: usize, sort: u32) -> Result
     into.extend_from_slice(names.sorts.at(sort as usize).as_str().as_bytes())
 }
 
+/// Writes the variables from the second one on with their sorts, each after a comma.
+fn push_more_binders(into: &mut Vec<u8>, names: &Names, sorts: &[u32]) -> Result<(), AllocError>
+    requires within { All (λ s. s < length names.now.sorts) sorts.now }
+    ensures { OnOk result (into.new.items ≡ into.old.items ++ flat_map (λ u. codes ", " ++ u) (binder_texts names.now 1 sorts.now)) }
+{
+    'each: for (i, sort) in sorts.iter().enumerate() {
+        into.extend_from_slice(b", ")?;
+        push_binder(into, names, i + 1, *sort)?;
+    }
+    Ok(())
+}
+
 /// Writes the variables with their sorts, if there are some.
 fn push_binders(into: &mut Vec<u8>, names: &Names, sorts: &[u32]) -> Result<(), AllocError>
     requires within { All (λ s. s < length names.now.sorts) sorts.now }
     ensures { OnOk result (into.new.items ≡ into.old.items ++ binders_text names.now sorts.now) }
 {
-    if sorts.is_empty() {
-        return Ok(());
-    }
-    into.extend_from_slice(b"forall ")?;
-    'each: for (k, sort) in sorts.iter().enumerate() {
-        if k > 0 {
-            into.extend_from_slice(b", ")?;
+    match sorts {
+        [] => Ok(()),
+        [first, others @ ..] => {
+            into.extend_from_slice(b"forall ")?;
+            push_binder(into, names, 0, *first)?;
+            push_more_binders(into, names, others)?;
+            into.extend_from_slice(b". ")
         }
-        push_binder(into, names, k, *sort)?;
     }
-    into.extend_from_slice(b". ")
 }
 
 /// Writes a clause and the end of its line: its level, its variables, and the negations of the

@@ -11,7 +11,7 @@ pub returns-in-Ok : goal.returns-in-Ok
 returns-in-Ok c =
     sort_is c.args.sig.now c.args.names.now c.args.k c.args.bytes.now
     ∙ blocks_found (ended_sort c.args.names.now c.args.k) (sort_options c.args.k) c.args.sig.now.sorts c.args.bytes.now c.each.s c.each.least ((c.each.s, c.in-Ok.e), c.in-Ok.rest.now) c.each-test.true c.each.invariant
-        (sort_found c.args.sig.now c.args.names.now c.args.k c.args.bytes.now c.each.s c.in-Ok.e c.in-Ok.rest.now (c.in-Ok.ensures {u = tt}))
+    (sort_found c.args.sig.now c.args.names.now c.args.k c.args.bytes.now c.each.s c.in-Ok.e c.in-Ok.rest.now (c.in-Ok.ensures {u = tt}))
 
 pub each-preserved : goal.each-preserved
 each-preserved c =

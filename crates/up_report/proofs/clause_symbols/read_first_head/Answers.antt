@@ -1,4 +1,4 @@
-use Rattle.std.proofs.Common.{[], ◌∷◌, sym}
+use Rattle.std.proofs.Common.{[], ◌∷◌}
 use Rattle.std.proofs.lemmas.Bool.{eq-eqb, ne_eqb}
 use Rattle.fo_text.specs.Reading.{choose}
 use Rattle.up_report.specs.declared.clause_heads.Head.TheVariants.{Forall, Nothing}

@@ -16,7 +16,7 @@ pub returns-in-Ok : goal.returns-in-Ok
 returns-in-Ok c =
     variable_is c.args.sorts.now c.args.ending c.args.sort c.args.bytes.now
     ∙ blocks_found (ended_variable c.args.ending) (variable_options c.args.sorts.now c.args.ending c.args.sort) (length c.args.sorts.now) c.args.bytes.now c.each.v c.each.least ((c.each.v, c.in-Ok.e), c.in-Ok.rest.now) c.each-test.true c.each.invariant
-        (variable_found c.args.sorts.now c.args.ending c.args.sort c.each.v c.in-Ok.e c.args.bytes.now c.in-Ok.rest.now c.if-sorts-v.false (c.in-Ok.ensures {u = tt}))
+    (variable_found c.args.sorts.now c.args.ending c.args.sort c.each.v c.in-Ok.e c.args.bytes.now c.in-Ok.rest.now c.if-sorts-v.false (c.in-Ok.ensures {u = tt}))
 
 pub each-preserved : goal.each-preserved
 each-preserved c =
