@@ -23,7 +23,7 @@ use Rattle.up_claims.specs.declared.verdict.Verdict.{Verdict}
 use Rattle.up_claims.specs.declared.verdict.Verdict.TheVariants as verdict
 use Rattle.up_claims.specs.Verdicts.{cubes_of}
 use Rattle.up_diagram.specs.Cubes.{IsCube}
-use Rattle.up_cert.specs.Asked.{CanJudgeVerdict, HasLinkWorlds, HasNumbers, IsOrdered, IsOver}
+use Rattle.up_cert.specs.Asked.{CanJudgeVerdict, HasLinkWorlds, HasNumbers, IsOrdered, IsVerdict}
 use Rattle.up_report.specs.ClauseTexts.{HasClause, clause_text}
 use Rattle.up_report.specs.Ranges.{HasLeaves, HasLink, HasLinks, HasVerdict}
 use Rattle.up_report.specs.Reports.{IsReport}
@@ -98,18 +98,18 @@ module _ (sig : Sig) where
   leaves_worlds clauses level (leave ∷ leaves) has =
       All-cons (λ (x : Leave). IsReadable sig x.step) leave leaves (readable leave.step has.0.step.0) (leaves_worlds clauses (level + 1) leaves has.1)
 
-  is_over : (told : Verdict) → HasVerdict sig told → IsOver sig told
-  is_over (verdict.Safe frame clauses) has = record { cubes = cubes_sorted (frame + 1) 65 clauses has.1; worlds = tt; leaves = tt }
-  is_over (verdict.Unsafe w) has = record { cubes = tt; worlds = readable w has.0; leaves = tt }
-  is_over (verdict.NoUniversal links) has = record { cubes = tt; worlds = links_worlds links has.0; leaves = tt }
-  is_over (verdict.Bounded last clauses leaves) has = record {
+  is_verdict : (told : Verdict) → HasVerdict sig told → IsVerdict sig told
+  is_verdict (verdict.Safe frame clauses) has = record { cubes = cubes_sorted (frame + 1) 65 clauses has.1; worlds = tt; leaves = tt }
+  is_verdict (verdict.Unsafe w) has = record { cubes = tt; worlds = readable w has.0; leaves = tt }
+  is_verdict (verdict.NoUniversal links) has = record { cubes = tt; worlds = links_worlds links has.0; leaves = tt }
+  is_verdict (verdict.Bounded last clauses leaves) has = record {
     cubes = cubes_sorted 1 (last + 1) clauses has.clauses_are;
     worlds = leaves_worlds (length clauses) 1 leaves has.leaves_are;
     leaves = has.one_each;
   }
-  is_over (verdict.Spent steps) has = record { cubes = tt; worlds = tt; leaves = tt }
-  is_over (verdict.Over kind weight) has = record { cubes = tt; worlds = tt; leaves = tt }
-  is_over (verdict.NoRun k) has = record { cubes = tt; worlds = tt; leaves = tt }
+  is_verdict (verdict.Spent steps) has = record { cubes = tt; worlds = tt; leaves = tt }
+  is_verdict (verdict.Over kind weight) has = record { cubes = tt; worlds = tt; leaves = tt }
+  is_verdict (verdict.NoRun k) has = record { cubes = tt; worlds = tt; leaves = tt }
 
 -- ---- the order
 
@@ -136,7 +136,7 @@ can_judge e bytes r order model is short rises =
     record {
       system = model.system;
       shallow = model.shallow;
-      over = is_over e.sys.sig r.verdict is.ranged.verdict_is;
+      fits = is_verdict e.sys.sig r.verdict is.ranged.verdict_is;
       numbers = has_numbers e.sys.sig e.names r.verdict is.ranged.verdict_is (omega (arith, within, whole, short));
       ordered = is_ordered e.sys order r.verdict rises;
     }

@@ -15,7 +15,7 @@ use Rattle.up_claims.specs.Verdicts.{Holds}
 use Rattle.up_cert.specs.declared.judged.Judged.{Judged}
 use Rattle.up_cert.specs.declared.judged.Judged.TheVariants as judged
 use Rattle.up_cert.specs.declared.spot.Spot.{Spot}
-use Rattle.up_cert.specs.Asked.{IsOver}
+use Rattle.up_cert.specs.Asked.{IsVerdict}
 use Rattle.up_cert.specs.Judging.{Clears, IsFound, IsJudged}
 use Rattle.up_cert.specs.VerdictSpots.{queries_at, spots_of}
 use Rattle.up_cert.proofs.Judgements.{one-judgement, judged-holds, judged-wrong}
@@ -92,7 +92,7 @@ module _ (sys : System) (limit : ℕ) where
   confirmed_judged : (told : Verdict) → IsConfirmed sys limit told → IsJudged sys limit told judged.Holds
   confirmed_judged told c = found_judged told judged.Holds c.claims (light_clears told c.holds c.light)
 
-  pub judged_confirmed : (told : Verdict) → IsOver sys.sig told → IsJudged sys limit told judged.Holds → IsConfirmed sys limit told
+  pub judged_confirmed : (told : Verdict) → IsVerdict sys.sig told → IsJudged sys limit told judged.Holds → IsConfirmed sys limit told
   judged_confirmed told over is =
       let claims = judged_claims told judged.Holds (λ (same : judged.Holds ≡ judged.Nothing). cc) is in
       record { claims = claims; holds = judged-holds sys limit told over is; light = clears_light told (judged_found told judged.Holds claims is) }

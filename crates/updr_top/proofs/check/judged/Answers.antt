@@ -12,7 +12,7 @@ returns-in-Holds g c =
     let limit = g.F.Finder.limit c.args.finder.now in
     let judged = rw (c.in-Holds.is) at c.in_ok-judge.ensures.judged in
     if_end c.confirmed.result _ _
-    (λ e is cs. inl (record { comes = judged_confirmed sys limit told c.requires.over judged; bytes = _; left = None; says = refl; is = is })) c.confirmed.ensures
+    (λ e is cs. inl (record { comes = judged_confirmed sys limit told c.requires.fits judged; bytes = _; left = None; says = refl; is = is })) c.confirmed.ensures
 
 pub returns-in-Wrong : goal.returns-in-Wrong
 returns-in-Wrong g c =
