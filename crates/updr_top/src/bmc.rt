@@ -56,7 +56,7 @@ fn reported(
     Ok(Told::printing(alloc, status, text))
 }
 
-/// Goes through the sizes of a world, each of which is a number of 32 bits.
+/// Looks at each size, so that it is known to be a number of 32 bits, as the text of a world asks.
 fn go_through(sizes: &[u32])
     ensures { All (λ n. n < 2 ^ 32) sizes.now }
 {
