@@ -38,8 +38,9 @@ pub fn guess(bytes: &[u8]) -> u32 {
         if !byte.is_ascii_digit() {
             return number;
         }
-        number = number.wrapping_mul(10).wrapping_add(u32::from(*byte));
-        number = number.wrapping_sub(48);
+        number = number
+            .wrapping_mul(10)
+            .wrapping_add(u32::from(*byte - b'0'));
     }
     number
 }
