@@ -187,12 +187,7 @@ module _ (sig : Sig) (names : Names) (is_sig : IsSig sig) (can : CanName sig nam
     where
       back : (v : Verdict) → Of 0 v → (frame : ℕ) × (cs : List Kept) × IsBetween 1 64 frame × Clauses (frame + 1) 65 cs × (Safe frame cs ≡ v)
       back (Safe frame cs) h = (frame, cs, h.1.0, recursion_from_All (HasClause sig (frame + 1) 65) cs h.1.1, refl)
-      back (Unsafe run) h = absurd (omega (arith, h.0))
-      back (NoUniversal links) h = absurd (omega (arith, h.0))
-      back (Bounded last clauses leaves) h = absurd (omega (arith, h.0))
-      back (Spent steps) h = absurd (omega (arith, h.0))
-      back (Over kind weight) h = absurd (omega (arith, h.0))
-      back (NoRun steps) h = absurd (omega (arith, h.0))
+      back other h = absurd (omega (arith, h.0))
 
   -- ---- unsafe
 
@@ -210,12 +205,7 @@ module _ (sig : Sig) (names : Names) (is_sig : IsSig sig) (can : CanName sig nam
 
       back : (v : Verdict) → Of 1 v → (steps : ℕ) × (run : World) × IsBetween 0 64 steps × HasCopies sig (steps + 1) run × (Unsafe run ≡ v)
       back (Unsafe run) h = (length run.copies - 1, run, (omega arith, omega (arith, h.1.1)), (h.1.0, omega (arith, h.1.0.fits.some_copy)), refl)
-      back (Safe frame clauses) h = absurd (omega (arith, h.0))
-      back (NoUniversal links) h = absurd (omega (arith, h.0))
-      back (Bounded last clauses leaves) h = absurd (omega (arith, h.0))
-      back (Spent steps) h = absurd (omega (arith, h.0))
-      back (Over kind weight) h = absurd (omega (arith, h.0))
-      back (NoRun steps) h = absurd (omega (arith, h.0))
+      back other h = absurd (omega (arith, h.0))
 
   -- ---- a chain
 
@@ -237,33 +227,18 @@ module _ (sig : Sig) (names : Names) (is_sig : IsSig sig) (can : CanName sig nam
           let t = from_links sig names is_sig named links h.1.0 in
           let e : length links ≡ length links - 1 + 1 = omega (arith, t.0) in
           (length links - 1, links, (omega arith, omega (arith, h.1.1)), subst (λ (n : ℕ). LinksFit sig n 1 links) e t.1, refl)
-      back (Safe frame clauses) h = absurd (omega (arith, h.0))
-      back (Unsafe run) h = absurd (omega (arith, h.0))
-      back (Bounded last clauses leaves) h = absurd (omega (arith, h.0))
-      back (Spent steps) h = absurd (omega (arith, h.0))
-      back (Over kind weight) h = absurd (omega (arith, h.0))
-      back (NoRun steps) h = absurd (omega (arith, h.0))
+      back other h = absurd (omega (arith, h.0))
 
   -- ---- frames
 
   -- the clauses and leaves of the frames up to this one
   abbrev FramesFit : ℕ → Verdict → Type 0
   FramesFit last (Bounded n cs leaves) = (n ≡ last) × SomeClauses 1 (last + 1) cs × LeavesFit sig (length cs) last 1 leaves
-  FramesFit last (Safe frame clauses) = ⊥
-  FramesFit last (Unsafe run) = ⊥
-  FramesFit last (NoUniversal links) = ⊥
-  FramesFit last (Spent steps) = ⊥
-  FramesFit last (Over kind weight) = ⊥
-  FramesFit last (NoRun steps) = ⊥
+  FramesFit last _ = ⊥
 
   abbrev frames_text : Verdict → List ℕ
   frames_text (Bounded n cs leaves) = clauses_text names cs ++ leaves_text sig names leaves
-  frames_text (Safe frame clauses) = []
-  frames_text (Unsafe run) = []
-  frames_text (NoUniversal links) = []
-  frames_text (Spent steps) = []
-  frames_text (Over kind weight) = []
-  frames_text (NoRun steps) = []
+  frames_text _ = []
 
   exact_frames : (last : ℕ) → IsBetween 1 64 last → Exact (FramesFit last) frames_text (frames_at sig names last)
   unfolding frames_at
@@ -282,12 +257,7 @@ module _ (sig : Sig) (names : Names) (is_sig : IsSig sig) (can : CanName sig nam
 
       back : (v : Verdict) → FramesFit last v → (cs : List Kept) × (leaves : List Leave) × SomeClauses 1 (last + 1) cs × LeavesFit sig (length cs) last 1 leaves × (Bounded last cs leaves ≡ v)
       back (Bounded n cs leaves) h = (cs, leaves, h.1, h.2, ap (λ (m : ℕ). Bounded m cs leaves) (sym h.0))
-      back (Safe frame clauses) h = absurd h
-      back (Unsafe run) h = absurd h
-      back (NoUniversal links) h = absurd h
-      back (Spent steps) h = absurd h
-      back (Over kind weight) h = absurd h
-      back (NoRun steps) h = absurd h
+      back other h = absurd h
 
   some_clause : (count : ℕ) (leaves : List Leave) → 1 ≤ length leaves → HasLeaves sig count 1 leaves → 1 ≤ count
   some_clause count [] h k = absurd (omega (arith, h))
@@ -303,24 +273,14 @@ module _ (sig : Sig) (names : Names) (is_sig : IsSig sig) (can : CanName sig nam
       joins last (Bounded n cs leaves) range h =
           subst (λ (m : ℕ). Of 3 (Bounded m cs leaves) × (told_text sig names (Bounded m cs leaves) ≡ number_text 10 last ++ frames_text (Bounded m cs leaves))) (sym h.0)
           ((refl, record { last_is = range; clauses_are = All-from_recursion (HasClause sig 1 (last + 1)) cs h.1.are; one_each = h.2.0; leaves_are = h.2.1 }), refl)
-      joins last (Safe frame clauses) range h = absurd h
-      joins last (Unsafe run) range h = absurd h
-      joins last (NoUniversal links) range h = absurd h
-      joins last (Spent steps) range h = absurd h
-      joins last (Over kind weight) range h = absurd h
-      joins last (NoRun steps) range h = absurd h
+      joins last other range h = absurd h
 
       parts : (v : Verdict) → Of 3 v → (last : ℕ) × IsBetween 1 64 last × FramesFit last v
       parts (Bounded n cs leaves) h =
           let f = h.1 in
           let some = some_clause (length cs) leaves (omega (arith, f.one_each, f.last_is.0)) f.leaves_are in
           (n, f.last_is, (refl, record { some = some; are = recursion_from_All (HasClause sig 1 (n + 1)) cs f.clauses_are }, (f.one_each, f.leaves_are)))
-      parts (Safe frame clauses) h = absurd (omega (arith, h.0))
-      parts (Unsafe run) h = absurd (omega (arith, h.0))
-      parts (NoUniversal links) h = absurd (omega (arith, h.0))
-      parts (Spent steps) h = absurd (omega (arith, h.0))
-      parts (Over kind weight) h = absurd (omega (arith, h.0))
-      parts (NoRun steps) h = absurd (omega (arith, h.0))
+      parts other h = absurd (omega (arith, h.0))
 
   -- ---- spent, over, no run
 
@@ -332,12 +292,7 @@ module _ (sig : Sig) (names : Names) (is_sig : IsSig sig) (can : CanName sig nam
     where
       back : (v : Verdict) → Of 4 v → (n : ℕ) × IsBetween 0 (2 ^ 32 - 1) n × (Spent n ≡ v)
       back (Spent steps) h = (steps, (omega arith, omega (arith, h.1)), refl)
-      back (Safe frame clauses) h = absurd (omega (arith, h.0))
-      back (Unsafe run) h = absurd (omega (arith, h.0))
-      back (NoUniversal links) h = absurd (omega (arith, h.0))
-      back (Bounded last clauses leaves) h = absurd (omega (arith, h.0))
-      back (Over kind weight) h = absurd (omega (arith, h.0))
-      back (NoRun steps) h = absurd (omega (arith, h.0))
+      back other h = absurd (omega (arith, h.0))
 
   exact_over : Exact (Of 5) (told_text sig names) over_at
   unfolding over_at
@@ -349,12 +304,7 @@ module _ (sig : Sig) (names : Names) (is_sig : IsSig sig) (can : CanName sig nam
     where
       back : (v : Verdict) → Of 5 v → (k : ℕ) × (weight : ℕ) × (k < 6) × IsBetween 0 (2 ^ 64 - 1) weight × (Over (kind_of k) weight ≡ v)
       back (Over kind weight) h = (kind_number kind, weight, kind_small kind, (omega arith, omega (arith, h.1)), ap (λ (k : Kind). Over k weight) (kind_is kind))
-      back (Safe frame clauses) h = absurd (omega (arith, h.0))
-      back (Unsafe run) h = absurd (omega (arith, h.0))
-      back (NoUniversal links) h = absurd (omega (arith, h.0))
-      back (Bounded last clauses leaves) h = absurd (omega (arith, h.0))
-      back (Spent steps) h = absurd (omega (arith, h.0))
-      back (NoRun steps) h = absurd (omega (arith, h.0))
+      back other h = absurd (omega (arith, h.0))
 
   exact_no_run : Exact (Of 6) (told_text sig names) no_run_at
   unfolding no_run_at
@@ -364,12 +314,7 @@ module _ (sig : Sig) (names : Names) (is_sig : IsSig sig) (can : CanName sig nam
     where
       back : (v : Verdict) → Of 6 v → (n : ℕ) × IsBetween 0 64 n × (NoRun n ≡ v)
       back (NoRun steps) h = (steps, (omega arith, h.1), refl)
-      back (Safe frame clauses) h = absurd (omega (arith, h.0))
-      back (Unsafe run) h = absurd (omega (arith, h.0))
-      back (NoUniversal links) h = absurd (omega (arith, h.0))
-      back (Bounded last clauses leaves) h = absurd (omega (arith, h.0))
-      back (Spent steps) h = absurd (omega (arith, h.0))
-      back (Over kind weight) h = absurd (omega (arith, h.0))
+      back other h = absurd (omega (arith, h.0))
 
   -- ---- all
 

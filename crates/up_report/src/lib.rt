@@ -1,4 +1,6 @@
-//! The text of a report: written, and read exactly.
+//! The text of a report, which tells a verdict with the clauses and worlds that belong to it. What is
+//! written is read back, what is read is the text that is written for the answer, and a fault is at
+//! the first byte at which no report goes on.
 #![tactic(auto)]
 
 mod clause_binders;
