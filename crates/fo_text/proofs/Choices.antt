@@ -289,7 +289,7 @@ module _ {X : Type 0} (text : X → List ℕ) where
       choose_cons x (a ++ b) bytes ∙ ap (λ (r : Read X). or_else (option_at text x bytes) r) (choose_append a b bytes)
       ∙ sym (ap (λ (r : Read X). or_else r (choose text b bytes)) (choose_cons x a bytes) ∙ or_else_assoc (option_at text x bytes) (choose text a bytes) (choose text b bytes))
 
-  -- The options before these were tried in vain, and the latest fault left so many bytes.
+  -- The options before these were tried in vain, and the latest fault left this number of bytes.
   pub record Tried (options rest : List X) (bytes : List ℕ) (least : ℕ) : Type 0 where
     pub within : least ≤ length bytes
     pub same : or_else (Err least) (choose text rest bytes) ≡ choose text options bytes
@@ -359,7 +359,7 @@ differ_apart [] u p q h e = absurd cc
 differ_apart (a ∷ t) [] p q h e = absurd cc
 differ_apart (a ∷ t) (b ∷ u) p q h e = differ_by (eqb a b) a b t u p q refl (differ_apart t u p q) h e
 
--- the text at a place of the list, behind a mark and a word
+-- the text at a place of the list, after a mark and a word
 abbrev pub placed : List ℕ → List ℕ → List (List ℕ) → ℕ → List ℕ
 placed mark word texts k = mark ++ (word ++ get_or texts k [])
 

@@ -1,4 +1,4 @@
--- Items, each behind a keyword, and then another keyword, are read exactly.
+-- Items, each after a keyword, and then another keyword, are read exactly.
 use Rattle.std.proofs.Common.{◌≡◌, ℕ, zero, suc, ◌+◌, ◌<◌, ◌≤◌, inl, inr, true, cond, eqb, List, [], ◌∷◌, ◌++◌, length, Ok, Err, refl, sym, ap, subst, ◌∙◌, append_assoc, length-append, arith}
 use Rattle.std.specs.List.{AllByRecursion, flat_map}
 use Rattle.fo_text.specs.Reading.{Read, ◌>>=◌, choice_at, many_by, many}
@@ -21,7 +21,7 @@ with_item_err x (Ok ys) left e = absurd cc
 with_item_err {A} x (Err m) left e = ap (λ (n : ℕ). Err n) (err_is {A = List A × List ℕ} m left e)
 
 module _ {A : Type 0} (Fits : A → Type 0) (text : A → List ℕ) (item : List ℕ → Read A) (stop go : List ℕ) where
-  -- each item behind the one keyword, and then the other
+  -- each item after the one keyword, and then the other
   abbrev pub many_text : List A → List ℕ
   many_text [] = stop
   many_text (x ∷ xs) = go ++ (text x ++ many_text xs)
@@ -35,7 +35,7 @@ module _ {A : Type 0} (Fits : A → Type 0) (text : A → List ℕ) (item : List
   abbrev word_at : List ℕ → Read ℕ
   word_at bytes = choice_at [] [] (stop ∷ go ∷ []) bytes
 
-  -- what follows a keyword, where the lists behind it are read so
+  -- what follows a keyword, where the lists after it are read so
   abbrev after : (List ℕ → Read (List A)) → ℕ → List ℕ → Read (List A)
   after read k bytes = cond (eqb k 0) (Ok ([], bytes)) (item bytes >>= λ x. with_item x.0 (read x.1))
 

@@ -249,7 +249,7 @@ module _ (sig : Sig) (names : Names) (is_sig : IsSig sig) (named : NamesEach sig
 
   -- ---- a world of a known number of copies
 
-  -- a world that fits, of so many copies
+  -- a world that fits, with this number of copies
   abbrev pub HasCopies : ℕ → World → Type 0
   HasCopies n w = HasText sig w × (length w.copies ≡ n)
 

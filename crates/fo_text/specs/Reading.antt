@@ -180,12 +180,12 @@ unfoldable pub choose : {X : Type 0} → (X → List ℕ) → List X → List �
 choose text [] bytes = Err (length bytes)
 choose text (x ∷ options) bytes = or_else (option_at text x bytes) (choose text options bytes)
 
--- one of these texts behind a mark and a word, told by its place
+-- one of these texts after a mark and a word, told by its place
 unfoldable pub choice_at : List ℕ → List ℕ → List (List ℕ) → List ℕ → Read ℕ
 choice_at mark word texts bytes =
     choose (λ k. mark ++ (word ++ slice_index_or texts k [])) (range_with_len 0 (length texts)) bytes
 
--- ---- items, each behind a keyword, and then another keyword
+-- ---- items, each after a keyword, and then another keyword
 
 -- up to n - 1 items
 unfoldable pub many_by : {A : Type 0} → List ℕ → List ℕ → (List ℕ → Read A) → ℕ → List ℕ → Read (List A)
@@ -195,7 +195,7 @@ many_by stop go item (suc n) bytes = do
   if word.0 == 0 then Ok ([], word.1)
       else (item word.1 >>= λ x. many_by stop go item n x.1 >>= λ xs. Ok (x.0 ∷ xs.0, xs.1))
 
--- items, each behind the keyword `go`, and then the keyword `stop`; no list is longer than the bytes
+-- items, each after the keyword `go`, and then the keyword `stop`; no list is longer than the bytes
 abbrev pub many : {A : Type 0} → List ℕ → List ℕ → (List ℕ → Read A) → List ℕ → Read (List A)
 many stop go item bytes = many_by stop go item (length bytes + 1) bytes
 
@@ -209,6 +209,6 @@ copied_world_at see sig names copies bytes = do
   sizes ← sizes_at names.sorts rest
   structure_at see sig names sizes.0 copies sizes.1
 
--- the world of so many copies
+-- the text of a world with this number of copies
 abbrev pub world_of_copies_at : Sig → Names → ℕ → List ℕ → Read World
 world_of_copies_at = copied_world_at (λ line. line)

@@ -52,12 +52,12 @@ pub fn world_read(
     }
 }
 
-/// Reads the text of a world of so many copies from the front of the bytes, as a part of a longer
-/// text. It answers the world and what stands after its text.
+/// Reads the text of a world with this number of copies from the front of the bytes, as a part of a
+/// longer text. It answers the world and what stands after its text.
 ///
 /// The signature has to be well-sorted, with a name for each sort and symbol. A fault tells how many
-/// bytes are left at the first one by which the text of no world of so many copies goes on. Memory is
-/// taken for what was read, and not for what the text announces.
+/// bytes are left at the first one by which the text of no such world goes on. Memory is taken for what
+/// was read, and not for what the text announces.
 pub fn world_of_copies<'a>(
     alloc: Global,
     sig: &Sig,

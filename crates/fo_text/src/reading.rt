@@ -211,7 +211,7 @@ pub fn read_world<'a>(
     read_structure(alloc, sig, names, sizes, count, rest)
 }
 
-/// Reads a world of so many copies.
+/// Reads a world with this number of copies.
 #[tactic(auto, unfolding(crate::specs::Reading::copied_world_at))]
 pub fn read_copied_world<'a>(
     alloc: Global,

@@ -10,7 +10,7 @@ use Rattle.up_cert.specs.Clauses.{AreClauses}
 
 module _ (sys : System) (order : Order) where
   pub safe-clauses : (frame : ℕ) (clauses : List Kept) → CanJudgeVerdict sys order (verdict.Safe frame clauses) → AreClauses sys.sig clauses
-  safe-clauses frame clauses h = record { sorted = h.over.cubes; few = h.numbers }
+  safe-clauses frame clauses h = record { sorted = h.fits.cubes; few = h.numbers }
 
   pub bounded-clauses : (last : ℕ) (clauses : List Kept) (leaves : List Leave) → CanJudgeVerdict sys order (verdict.Bounded last clauses leaves) → AreClauses sys.sig clauses
-  bounded-clauses last clauses leaves h = record { sorted = h.over.cubes; few = h.numbers }
+  bounded-clauses last clauses leaves h = record { sorted = h.fits.cubes; few = h.numbers }

@@ -17,7 +17,7 @@ use Rattle.up_claims.proofs.ChainLemmas.{chain-refutes}
 use Rattle.up_cert.specs.declared.judged.Judged.{Judged}
 use Rattle.up_cert.specs.declared.judged.Judged.TheVariants as judged
 use Rattle.up_cert.specs.declared.spot.Spot.{Spot}
-use Rattle.up_cert.specs.Asked.{IsOver}
+use Rattle.up_cert.specs.Asked.{IsVerdict}
 use Rattle.up_cert.specs.Judging.{ComesTo, FindsWorld, FindsHeavy, IsRefuted, Clears, IsSpotReached, FailsFirst, IsOverFirst, IsFound, IsJudged}
 use Rattle.up_cert.specs.VerdictSpots.{Passes, queries_at, spots_of}
 use Rattle.up_cert.proofs.ChainPasses.{chain-there}
@@ -167,7 +167,7 @@ module _ (sys : System) (limit : ℕ) where
   judged-fails (verdict.Over kind weight) s h = absurd cc
   judged-fails (verdict.NoRun k) s h = found-fail sys limit (verdict.NoRun k) (spots_of (verdict.NoRun k)) s h
 
-  pub judged-holds : (told : Verdict) → IsOver sys.sig told → IsJudged sys limit told judged.Holds → Holds sys told
+  pub judged-holds : (told : Verdict) → IsVerdict sys.sig told → IsJudged sys limit told judged.Holds → Holds sys told
   judged-holds told over h = passes-there sys told over (judged-passes told h)
 
   pub judged-wrong : (told : Verdict) (s : Spot) → IsJudged sys limit told (judged.Wrong s) → ¬ Holds sys told

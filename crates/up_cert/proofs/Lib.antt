@@ -1,5 +1,6 @@
 pub mod AskedLemmas
 pub mod ChainPasses
+pub mod ExcessLemmas
 pub mod FoundLemmas
 pub mod FrameLemmas
 pub mod HaltLemmas

@@ -17,10 +17,10 @@ use Rattle.up_claims.specs.Verdicts.{cubes_of, frame_below, AreLeaves, IsLeave, 
 use Rattle.up_claims.proofs.CubeInvariantLemmas.{invariant-there, invariant-back}
 use Rattle.up_cert.specs.declared.spot.Spot.{Spot}
 use Rattle.up_cert.specs.declared.spot.What.TheVariants as what
-use Rattle.up_cert.specs.Asked.{IsOver}
+use Rattle.up_cert.specs.Asked.{IsVerdict}
 use Rattle.up_cert.specs.VerdictSpots.{Passes, spots_of, spot, spots_below, leaves_to, clause_spots, frame_spots, clause_at, no_clause, leave_at, no_leave, last_copy}
 use Rattle.up_cert.proofs.ChainPasses.{chain-there, chain-back}
-use Rattle.up_cert.proofs.Numbered.{each-from, each-to, one-from, one-to}
+use Rattle.up_cert.proofs.Numbered.{each-from, each-to, one-from, one-to, frame-all}
 use Rattle.up_cert.proofs.SpotLemmas.{run-states}
 
 -- what holds of the clauses' cubes, or of the clauses, holds of each by its number
@@ -42,7 +42,7 @@ module _ (sys : System) where
     abbrev steps : List Spot
     steps = spots_below what.Step (last_copy w)
 
-    run-there : IsOver sys.sig (verdict.Unsafe w) → All R (spots_of (verdict.Unsafe w)) → IsViolatingRun sys w
+    run-there : IsVerdict sys.sig (verdict.Unsafe w) → All R (spots_of (verdict.Unsafe w)) → IsViolatingRun sys w
     run-there over h =
         let front = all_left R (states ++ spot what.Init 0 ∷ []) (steps ++ spot what.Safety 0 ∷ []) h in
         let behind = all_right R (states ++ spot what.Init 0 ∷ []) (steps ++ spot what.Safety 0 ∷ []) h in
@@ -87,16 +87,10 @@ module _ (sys : System) where
         }
 
     pub frame-to : PassByNumber → All P (frame_spots clauses)
-    frame-to h =
-        let n = length clauses in
-        All-append P (clause_spots clauses) (spot what.Safety 0 ∷ [])
-        (All-append P (spots_below what.Init n) (spots_below what.Step n)
-        (each-to P (λ j. spot what.Init j ∷ []) n (λ k lt. one-from P (spot what.Init k) (h.starts k lt)))
-        (each-to P (λ j. spot what.Step j ∷ []) n (λ k lt. one-from P (spot what.Step k) (h.keeps k lt))))
-        (one-from P (spot what.Safety 0) h.safe)
+    frame-to h = frame-all P clauses h.starts h.keeps h.safe
 
   module _ (frame : ℕ) (clauses : List Kept) where
-    safe-there : IsOver sys.sig (verdict.Safe frame clauses) → All (Passes sys (verdict.Safe frame clauses)) (frame_spots clauses) → Holds sys (verdict.Safe frame clauses)
+    safe-there : IsVerdict sys.sig (verdict.Safe frame clauses) → All (Passes sys (verdict.Safe frame clauses)) (frame_spots clauses) → Holds sys (verdict.Safe frame clauses)
     safe-there over h =
         let p = frame-from (verdict.Safe frame clauses) clauses h in
         invariant-back sys (cubes_of clauses) over.cubes (record {
@@ -142,7 +136,7 @@ module _ (sys : System) where
         let within : k < length leaves = omega (arith, lt, h.one_each) in
         one-from B (spot what.Leave (k + 1)) (subst (IsLeave sys clauses (k + 1)) (sym (leaf k)) (h.each k (leave_at leaves k) (slice_get-get_or leaves k no_leave within))))
 
-    bounded-there : IsOver sys.sig (verdict.Bounded last clauses leaves) → All B (spots_of (verdict.Bounded last clauses leaves)) → IsBounded sys last clauses leaves
+    bounded-there : IsVerdict sys.sig (verdict.Bounded last clauses leaves) → All B (spots_of (verdict.Bounded last clauses leaves)) → IsBounded sys last clauses leaves
     bounded-there over h =
         let p = frame-from (verdict.Bounded last clauses leaves) clauses (all_left B (frame_spots clauses) (leaves_to last) h) in
         record {
@@ -162,7 +156,7 @@ module _ (sys : System) where
         }))
         (left-to h.left)
 
-  pub passes-there : (told : Verdict) → IsOver sys.sig told → All (Passes sys told) (spots_of told) → Holds sys told
+  pub passes-there : (told : Verdict) → IsVerdict sys.sig told → All (Passes sys told) (spots_of told) → Holds sys told
   passes-there (verdict.Safe frame clauses) over h = safe-there frame clauses over h
   passes-there (verdict.Unsafe w) over h = run-there w over h
   passes-there (verdict.NoUniversal links) over h = chain-there sys links h

@@ -14,8 +14,8 @@ use Rattle.up_cert.specs.declared.spot.Spot.{Spot}
 use Rattle.up_cert.specs.VerdictSpots.{spots_of, Passes, queries_at}
 
 module _ (sig : Sig) (limit : ℕ) where
-  -- the queries are asked in their order, and it comes to this one: those before it have no world, and none
-  -- of them is above the limit
+  -- the queries are asked in their order, and it comes to this one: those before it have no world,
+  -- and none of them is above the limit
   pub record ComesTo (queries : List Query) (q : Query) : Type 0 where
     pub before : List Query
     pub after : List Query
@@ -30,7 +30,8 @@ module _ (sig : Sig) (limit : ℕ) where
     pub light : IsLight sig limit query
     pub found : HasWorld sig query
 
-  -- the first of the queries that is above the limit, where those before it have no world: its weight
+  -- the first of the queries that is above the limit, where those before it have no world, has this
+  -- weight
   pub record FindsHeavy (queries : List Query) (weight : ℕ) : Type 0 where
     pub query : Query
     pub reached : ComesTo queries query
@@ -82,8 +83,8 @@ module _ (sys : System) (limit : ℕ) (told : Verdict) where
   IsFound spots (Over weight) = IsOverFirst spots weight
   IsFound spots Nothing = ⊥
 
--- What judging a verdict answers: what is found of its spots. That steps were spent, or that a query was
--- above the limit, says nothing of the system, and of these two nothing is told.
+-- What judging a verdict answers: what is found of its spots. That steps were spent, or that a
+-- query was above the limit, says nothing of the system, and of these two nothing is told.
 abbrev pub IsJudged : System → ℕ → Verdict → Judged → Type 0
 IsJudged sys limit (verdict.Spent steps) judged = judged ≡ Nothing
 IsJudged sys limit (verdict.Over kind weight) judged = judged ≡ Nothing

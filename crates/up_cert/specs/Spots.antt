@@ -43,7 +43,7 @@ pub record NoneViolated (sys : System) (w : World) (k : ℕ) : Type 0 where
   pub fails : ¬ Violates sys w (length w.copies - 1)
   pub number : k ≡ 0
 
--- this is what fails first
+-- this is what fails first; a run has no spots of other kinds
 abbrev pub FailsFirst : System → World → What → ℕ → Type 0
 FailsFirst sys w State = FirstNoState sys w
 FailsFirst sys w Init = NotInitial sys w

@@ -1,5 +1,5 @@
--- The spots of a verdict, in the order in which they are tried, what each asks for, and the queries that
--- decide it.
+-- The spots of a verdict, in the order in which they are tried, what each asks for, and the queries
+-- that decide it.
 use Rattle.std.specs.Prelude.{◌≡◌, ℕ, zero, suc, ◌+◌, ◌-◌, ◌<◌, List, [], ◌∷◌, ◌++◌, Some, length, slice_index_or, ⊤}
 use Rattle.fo_core.specs.declared.query.Query.{Query}
 use Rattle.fo_core.specs.declared.system.System.{System}
@@ -101,16 +101,16 @@ spots_of (verdict.NoRun k) = spot Run 0 ∷ []
 
 -- ---- what they ask for
 
--- the clauses are an invariant: no initial state meets a cube, no step leads into one from a state that
--- meets none, and no such state violates a safety
+-- the clauses are an invariant: no initial state meets a cube, no step leads into one from a state
+-- that meets none, and no such state violates a safety
 abbrev pub SafePasses : System → List Kept → What → ℕ → Type 0
 SafePasses sys clauses Init k = NoInitial sys (clause_at clauses k).cube
 SafePasses sys clauses Step k = NoStep sys (Some (cubes_of clauses)) (clause_at clauses k).cube
 SafePasses sys clauses Safety k = NoSeed sys (cubes_of clauses) []
 SafePasses sys clauses _ k = ⊤
 
--- the world is a violating run: its copies are states, the first is initial, each but the last steps to the
--- next one, and the last violates a safety
+-- the world is a violating run: its copies are states, the first is initial, each but the last
+-- steps to the next one, and the last violates a safety
 abbrev pub RunPasses : System → World → What → ℕ → Type 0
 RunPasses sys w State k = IsState sys w k
 RunPasses sys w Init k = IsInitial sys w 0
@@ -130,15 +130,17 @@ pub record ComesFrom (sys : System) (before : World) (link : Link) : Type 0 wher
 
 -- a link's state embeds by its map in the last copy of its origin
 abbrev pub Embeds : System → Link → Type 0
-Embeds sys link = IsEmbedding sys.sig link.state 0 link.origin (last_copy link.origin) link.map.images
+Embeds sys link =
+    IsEmbedding sys.sig link.state 0 link.origin (last_copy link.origin) link.map.images
 
 -- there is a last link, and its state violates a safety
 pub record EndsBadly (sys : System) (links : List Link) : Type 0 where
   pub some : 0 < length links
   pub violates : Violates sys (link_at links (length links - 1)).state 0
 
--- the links are a chain: each has a state, that embeds in an initial state or in one to which a step leads
--- from the state of the link before; the last state violates a safety; and no violating run is as short
+-- the links are a chain: each has a state, which embeds in an initial state or in one to which a
+-- step leads from the state of the link before; the last state violates a safety; and no violating
+-- run is as short
 abbrev pub ChainPasses : System → List Link → What → ℕ → Type 0
 ChainPasses sys links State k = HasState sys (link_at links k)
 ChainPasses sys links Start k = IsLoneInitial sys (link_at links k).origin
@@ -151,7 +153,8 @@ ChainPasses sys links _ k = ⊤
 -- the frames of the clauses hold up to the last one, and each is left by a step
 abbrev pub BoundedPasses : System → ℕ → List Kept → List Leave → What → ℕ → Type 0
 BoundedPasses sys last clauses leaves Init k = NoInitial sys (clause_at clauses k).cube
-BoundedPasses sys last clauses leaves Step k = NoStep sys (frame_below clauses (clause_at clauses k)) (clause_at clauses k).cube
+BoundedPasses sys last clauses leaves Step k =
+    NoStep sys (frame_below clauses (clause_at clauses k)) (clause_at clauses k).cube
 BoundedPasses sys last clauses leaves Safety k = NoSeed sys (cubes_from clauses last) []
 BoundedPasses sys last clauses leaves Left k = IsLeave sys clauses k (leave_at leaves (k - 1))
 BoundedPasses sys last clauses leaves _ k = ⊤
@@ -161,7 +164,8 @@ abbrev pub Passes : System → Verdict → Spot → Type 0
 Passes sys (verdict.Safe frame clauses) s = SafePasses sys clauses s.what s.number
 Passes sys (verdict.Unsafe w) s = RunPasses sys w s.what s.number
 Passes sys (verdict.NoUniversal links) s = ChainPasses sys links s.what s.number
-Passes sys (verdict.Bounded last clauses leaves) s = BoundedPasses sys last clauses leaves s.what s.number
+Passes sys (verdict.Bounded last clauses leaves) s =
+    BoundedPasses sys last clauses leaves s.what s.number
 Passes sys (verdict.Spent steps) s = ⊤
 Passes sys (verdict.Over kind weight) s = ⊤
 Passes sys (verdict.NoRun k) s = HasNoRunWithin sys k
@@ -170,7 +174,8 @@ Passes sys (verdict.NoRun k) s = HasNoRunWithin sys k
 
 abbrev pub safe_queries : System → List Kept → What → ℕ → List Query
 safe_queries sys clauses Init k = root_query sys (clause_at clauses k).cube ∷ []
-safe_queries sys clauses Step k = before_query sys (Some (cubes_of clauses)) (clause_at clauses k).cube ∷ []
+safe_queries sys clauses Step k =
+    before_query sys (Some (cubes_of clauses)) (clause_at clauses k).cube ∷ []
 safe_queries sys clauses Safety k = seed_query sys (cubes_of clauses) [] ∷ []
 safe_queries sys clauses _ k = []
 
@@ -190,7 +195,8 @@ abbrev pub queries_at : System → Verdict → Spot → List Query
 queries_at sys (verdict.Safe frame clauses) s = safe_queries sys clauses s.what s.number
 queries_at sys (verdict.Unsafe w) s = []
 queries_at sys (verdict.NoUniversal links) s = chain_queries sys links s.what
-queries_at sys (verdict.Bounded last clauses leaves) s = bounded_queries sys last clauses s.what s.number
+queries_at sys (verdict.Bounded last clauses leaves) s =
+    bounded_queries sys last clauses s.what s.number
 queries_at sys (verdict.Spent steps) s = []
 queries_at sys (verdict.Over kind weight) s = []
 queries_at sys (verdict.NoRun k) s = run_queries sys (k + 1)

@@ -8,7 +8,9 @@ ghost use Rattle.fo_core.specs.Tables.{IsReadable};
 ghost use Rattle.up_claims.specs.declared.verdict.Verdict.TheVariants.{NoUniversal};
 ghost use Rattle.up_cert.specs.Asked.{HasLinkWorlds, CanLook};
 ghost use Rattle.up_cert.specs.Trying.{Looks};
-ghost use Rattle.up_cert.specs.VerdictSpots.{ChainPasses, HasState, ComesFrom, Embeds, EndsBadly, last_copy as last_copy_of, origin_what as origin_what_of, link_spots, links_below, link_at};
+ghost use Rattle.up_cert.specs.VerdictSpots.{ChainPasses, HasState, ComesFrom, Embeds, EndsBadly};
+ghost use Rattle.up_cert.specs.VerdictSpots.{last_copy as last_copy_of, origin_what as origin_what_of};
+ghost use Rattle.up_cert.specs.VerdictSpots.{link_spots, links_below, link_at};
 
 use crate::spot::{Spot, What};
 use fo_core::{System, World};
@@ -115,7 +117,8 @@ fn has_origin(
     requires look { CanLook sys.now env.old }
     requires worlds { All (HasLinkWorlds sys.now.sig) links.now }
     requires within { k < length links.now }
-    ensures shown { IfOk result (λ b. IsTrue b ↔ ChainPasses sys.now links.now (origin_what_of k) k) }
+    ensures shown { IfOk result (λ b. IsTrue b ↔
+        ChainPasses sys.now links.now (origin_what_of k) k) }
     ensures same { env.new ≡ env.old }
 {
     let at = k as usize;
@@ -180,7 +183,8 @@ pub fn first_wrong_link(
     requires look { CanLook sys.now env.old }
     requires worlds { All (HasLinkWorlds sys.now.sig) links.now }
     requires few { length links.now < 2 ^ 32 }
-    ensures looks { IfOk result (Looks sys.now (NoUniversal links.now) (links_below (length links.now))) }
+    ensures looks { IfOk result (Looks sys.now (NoUniversal links.now)
+        (links_below (length links.now))) }
     ensures same { env.new ≡ env.old }
 {
     'each: for k in 0..links.len() as u32 {

@@ -187,8 +187,10 @@ fn first_step_from<F: Finder>(
     requires clauses { AreClauses sys.now.sig clauses.now }
     requires frame { IsFrameAt clauses.now frame.old }
     ensures halts { IfOk result (Halts sys.now.sig (F.limit f.old)
-        (λ k. NoStep sys.now (frame_below clauses.now (clause_at clauses.now k)) (clause_at clauses.now k).cube)
-        (λ k. before_query sys.now (frame_below clauses.now (clause_at clauses.now k)) (clause_at clauses.now k).cube ∷ [])
+        (λ k. NoStep sys.now (frame_below clauses.now (clause_at clauses.now k))
+        (clause_at clauses.now k).cube)
+        (λ k. before_query sys.now (frame_below clauses.now (clause_at clauses.now k))
+        (clause_at clauses.now k).cube ∷ [])
         (length clauses.now)) }
     ensures limit { F.limit f.new ≡ F.limit f.old }
 {
@@ -214,8 +216,10 @@ pub fn first_step_below<F: Finder>(
     requires infer { CanInfer sys.now order.now }
     requires clauses { AreClauses sys.now.sig clauses.now }
     ensures halts { IfOk result (Halts sys.now.sig (F.limit f.old)
-        (λ k. NoStep sys.now (frame_below clauses.now (clause_at clauses.now k)) (clause_at clauses.now k).cube)
-        (λ k. before_query sys.now (frame_below clauses.now (clause_at clauses.now k)) (clause_at clauses.now k).cube ∷ [])
+        (λ k. NoStep sys.now (frame_below clauses.now (clause_at clauses.now k))
+        (clause_at clauses.now k).cube)
+        (λ k. before_query sys.now (frame_below clauses.now (clause_at clauses.now k))
+        (clause_at clauses.now k).cube ∷ [])
         (length clauses.now)) }
     ensures limit { F.limit f.new ≡ F.limit f.old }
 {

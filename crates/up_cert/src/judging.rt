@@ -202,32 +202,33 @@ fn judge_no_run<F: Finder>(
 }
 
 /// Judges whether what a verdict says of the system is so, spot by spot: what its worlds show is
-/// looked at, and the rest is asked of the finder. It gives the first spot that fails. Where a query
-/// is above the finder's limit, before any spot fails, it gives the weight of the first such query.
-/// Of a verdict that says nothing of the system it tells nothing.
+/// looked at, and the rest is asked of the finder. It gives the first spot that fails. Where a
+/// query is above the finder's limit, before any spot fails, it gives the weight of the first such
+/// query. Of a verdict that says nothing of the system it tells nothing.
 ///
-/// The queries are asked in the order of the spots, and one is held at a time. Spots are, in their
-/// order:
+/// The queries are asked in the order of the spots, and one is held at a time. The spots are, in
+/// their order:
 /// - of clauses that are an invariant, for each that no initial state meets its cube (`Init`), for
 ///   each that no step leads into it from a state that meets no cube (`Step`), and that no such
 ///   state violates a safety (`Safety`);
 /// - of a violating run those of [`judge_run`];
 /// - of a chain, link by link, that its state and the last copy of its origin are states (`State`),
-///   that the first origin is one initial state (`Start`) and each other one a step from the state of
-///   the link before (`Step`), and that the state embeds in the origin's last copy (`Map`); then that
-///   the last state violates a safety (`Safety`), and that no violating run has at most as many steps
-///   as there are links after the first (`Run`);
-/// - of frames, for each clause that no initial state meets its cube (`Init`), for each that no step
-///   leads into it from the frame below its level (`Step`), that no state of the last frame violates
-///   a safety (`Safety`), and for each frame that it is left (`Leave`);
+///   that the first origin is one initial state (`Start`) and each other one a step from the state
+///   of the link before (`Step`), and that the state embeds in the origin's last copy (`Map`); then
+///   that the last state violates a safety (`Safety`), and that no violating run has at most as
+///   many steps as there are links after the first (`Run`);
+/// - of frames, for each clause that no initial state meets its cube (`Init`), for each that no
+///   step leads into it from the frame below its level (`Step`), that no state of the last frame
+///   violates a safety (`Safety`), and for each frame that it is left (`Leave`);
 /// - of runs of few steps, that none of them is violating (`Run`).
 ///
 /// It asks for a well-sorted system ([`System::is_well_sorted`]) whose formulas have at most 64
-/// binders above a place, for well-sorted cubes, for worlds that fit the signature and have fewer
-/// than 2^32 copies, for fewer than 2^32 clauses and links, for fewer than 2^32 - 1 steps, for a step
-/// for each frame of a bounded verdict, and, where queries are asked, for an order that rises along
-/// each edge of the system's sort graph for inference. Where a number of variables doesn't fit 32
-/// bits, it answers out of memory.
+/// binders above a place, for well-sorted cubes ([`up_diagram::Cube::is_well_sorted`]), for worlds
+/// that fit the signature ([`World::fits`]) and have fewer than 2^32 copies, for fewer than 2^32
+/// clauses and links, for fewer than 2^32 - 1 steps, for a step for each frame of a bounded
+/// verdict, and, where queries are asked, for an order that rises along each edge of the system's
+/// sort graph for inference. The one error is out of memory, which is also answered where a number of
+/// variables doesn't fit 32 bits.
 pub fn judge<F: Finder>(
     alloc: Global,
     finder: &mut F,

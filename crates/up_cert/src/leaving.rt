@@ -72,7 +72,8 @@ fn is_outside(
     requires sig { IsSig sys.now.sig }
     requires world { IsReadable sys.now.sig w.now }
     requires clauses { AreClauses sys.now.sig clauses.now }
-    ensures { IfOk result (λ b. IsTrue b ↔ Avoids sys.now.sig w.now 0 (cubes_from clauses.now level)) }
+    ensures { IfOk result (λ b. IsTrue b ↔
+        Avoids sys.now.sig w.now 0 (cubes_from clauses.now level)) }
 {
     'each: for k in 0..clauses.len() as u32 {
         let kept = clause_of(clauses, k);
@@ -163,7 +164,8 @@ pub fn first_unleft(
     requires worlds { All (λ (leave : LeaveOf). IsReadable sys.now.sig leave.step) leaves.now }
     requires clauses { AreClauses sys.now.sig clauses.now }
     requires each { length leaves.now ≡ last }
-    ensures looks { IfOk result (Looks sys.now (Bounded last clauses.now leaves.now) (leaves_to last)) }
+    ensures looks { IfOk result (Looks sys.now (Bounded last clauses.now leaves.now)
+        (leaves_to last)) }
     ensures same { env.new ≡ env.old }
 {
     'each: for k in 0..last {

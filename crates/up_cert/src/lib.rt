@@ -16,7 +16,7 @@ pub use judged::Judged;
 pub use judging::judge;
 pub use laws::{
     a_verdict_holds_where_all_spots_pass, an_accepted_chain_leaves_no_universal_invariant,
-    judged_rightly, one_judgement, queries_of_the_spots_judge_a_verdict,
+    judged_rightly, one_judgement, queries_of_the_spots_judge_a_verdict, the_first_excess_is_told,
 };
 pub use run::judge_run;
 pub use spot::{Spot, What};

@@ -5,8 +5,8 @@ pub enum What {
     State,
     /// That copy 0 of a run is initial, or that no initial state meets a clause's cube.
     Init,
-    /// That a copy of a run steps to the next one, that the origin of a link is a step from the state
-    /// of the link before, or that no step leads into a clause's cube.
+    /// That a copy of a run steps to the next one, that the origin of a link is a step from the
+    /// state of the link before, or that no step leads into a clause's cube.
     Step,
     /// That the last state of a run or of a chain violates a safety, or that no state violates one
     /// that meets no clause's cube.

@@ -1,5 +1,5 @@
--- The text of the model of n relations, r0 to r(n-1): a node takes the lock from the server into r0,
--- the lock goes from each relation to the next, and from the last one back to the server.
+-- The text of the model of n relations, r0 to r(n-1): a node takes the lock from the server into
+-- r0, the lock goes from each relation to the next, and from the last one back to the server.
 use Rattle.std.specs.Prelude.{ℕ, ◌+◌, ◌-◌, List, ◌++◌, codes, decimal}
 use Rattle.std.specs.List.{flat_map, range_with_len}
 
@@ -58,10 +58,11 @@ back_text k = back_head k ++ holds k ++ codes "  & new(server)\n" ++ leaves k
 
 -- relation k has at most one node
 abbrev pub safety_text : ℕ → List ℕ
-safety_text k = codes "safety [one] " ++ name_of k ++ codes "(X) & " ++ name_of k ++ codes "(Y) -> X = Y\n"
+safety_text k =
+    codes "safety [one] " ++ name_of k ++ codes "(X) & " ++ name_of k ++ codes "(Y) -> X = Y\n"
 
--- the states are told by whether the server has the lock and by n relations of nodes, and at first the
--- server has it
+-- the states are told by whether the server has the lock and by n relations of nodes, and at first
+-- the server has it
 abbrev pub states_text : ℕ → List ℕ
 states_text n =
     codes "sort node\nmutable relation server\n" ++

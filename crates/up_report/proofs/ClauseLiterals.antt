@@ -375,7 +375,7 @@ module _ (sig : Sig) (names : Names) (named : CanName sig names) (sorts : List �
 
     none_has : (args : List ℕ) → not (eqb (length args) 0) ≡ false → args ≡ []
     none_has [] e = refl
-    none_has (s ∷ ss) e = let z = eqb-suc-zero (length ss) in let n = ap not z in absurd (cc (n, e))
+    none_has (s ∷ ss) e = let z = ap not (eqb-suc-zero (length ss)) in absurd (cc (z, e))
 
     some_has : (args : List ℕ) → not (eqb (length args) 0) ≡ true → 0 < length args
     some_has [] e = absurd cc

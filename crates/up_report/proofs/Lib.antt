@@ -11,3 +11,9 @@ pub mod ClauseSorts
 pub mod ClauseVariables
 pub mod ClauseWords
 pub mod ClauseWriting
+pub mod Loops
+pub mod ReadLeaves
+pub mod ReadLinks
+pub mod ReadReports
+pub mod ReadVerdicts
+pub mod WriteParts

@@ -22,7 +22,8 @@ unfoldable pub chain_by : {A : Type 0} → (ℕ → List ℕ → Read (A × Bool
 chain_by item zero k bytes = Err 0
 chain_by item (suc n) k bytes = do
   x ← item k bytes
-  if x.0.1 then Ok (x.0.0 ∷ [], x.1) else (chain_by item n (k + 1) x.1 >>= λ xs. Ok (x.0.0 ∷ xs.0, xs.1))
+  if x.0.1 then Ok (x.0.0 ∷ [], x.1)
+      else (chain_by item n (k + 1) x.1 >>= λ xs. Ok (x.0.0 ∷ xs.0, xs.1))
 
 -- items from number k on; no list is longer than the bytes
 abbrev pub chain : {A : Type 0} → (ℕ → List ℕ → Read (A × Bool)) → ℕ → List ℕ → Read (List A)
@@ -52,7 +53,8 @@ ended mark word ending e = mark ++ (word ++ slice_index_or (texts ending) e [])
 
 -- the variable, if it has the sort, with each place of a text
 abbrev pub variable_options : List ℕ → Ending → ℕ → ℕ → List (ℕ × ℕ)
-variable_options sorts ending s v = cond (slice_index sorts v == s) (map (λ e. (v, e)) (places ending)) []
+variable_options sorts ending s v =
+    cond (slice_index sorts v == s) (map (λ e. (v, e)) (places ending)) []
 
 abbrev pub ended_variable : Ending → ℕ × ℕ → List ℕ
 ended_variable ending x = ended [] (decimal x.0) ending x.1
@@ -60,9 +62,10 @@ ended_variable ending x = ended [] (decimal x.0) ending x.1
 -- the number of a variable of this sort, and which text ends it
 unfoldable pub variable_at : List ℕ → Ending → ℕ → List ℕ → Read (ℕ × ℕ)
 variable_at sorts ending s bytes =
-    choose (ended_variable ending) (flat_map (variable_options sorts ending s) (range_with_len 0 (length sorts))) bytes
+    choose (ended_variable ending)
+    (flat_map (variable_options sorts ending s) (range_with_len 0 (length sorts))) bytes
 
--- what ends an argument, where so many arguments follow
+-- what ends an argument, where this number of arguments follows
 abbrev pub argument_ending : ℕ → Ending
 argument_ending following = if following == 0 then LastArgument else Argument
 
@@ -81,7 +84,8 @@ has_arguments symbol = not (length symbol.args == 0)
 
 -- what ends a symbol's name
 abbrev pub name_ending : Symbol → Ending
-name_ending symbol = if has_arguments symbol then Arguments else (if symbol.relation then Denial else Unequal)
+name_ending symbol =
+    if has_arguments symbol then Arguments else (if symbol.relation then Denial else Unequal)
 
 -- some variable has the sort
 abbrev pub has_variable : List ℕ → ℕ → Bool
@@ -99,17 +103,20 @@ may_stand sorts sign symbol = stands sorts symbol && (not sign || symbol.relatio
 -- the heads that the symbol of number k gives
 abbrev pub symbol_heads : Sig → List ℕ → Bool → ℕ → List Head
 symbol_heads sig sorts sign k =
-    cond (may_stand sorts sign (symbol_at sig k)) (map (λ e. Applied sign k (e == 1)) (places (name_ending (symbol_at sig k)))) []
+    cond (may_stand sorts sign (symbol_at sig k))
+    (map (λ e. Applied sign k (e == 1)) (places (name_ending (symbol_at sig k)))) []
 
 abbrev pub signed_heads : Sig → List ℕ → Bool → List Head
-signed_heads sig sorts sign = flat_map (symbol_heads sig sorts sign) (range_with_len 0 (length sig.symbols))
+signed_heads sig sorts sign =
+    flat_map (symbol_heads sig sorts sign) (range_with_len 0 (length sig.symbols))
 
 abbrev pub equal_heads : ℕ → List Head
 equal_heads count = flat_map (λ i. Equal i ∷ []) (range_with_len 0 count)
 
 -- the heads of denials over variables of these sorts
 abbrev pub heads : Sig → List ℕ → List Head
-heads sig sorts = equal_heads (length sorts) ++ (signed_heads sig sorts false ++ signed_heads sig sorts true)
+heads sig sorts =
+    equal_heads (length sorts) ++ (signed_heads sig sorts false ++ signed_heads sig sorts true)
 
 abbrev pub head_text : Sig → Names → Head → List ℕ
 head_text sig names Forall = codes "forall V0:"
@@ -118,6 +125,29 @@ head_text sig names (Equal i) = ended (codes "V") (decimal i) Equality 0
 head_text sig names (Applied sign k last) =
     ended (mark sign) (symbol_name names k) (name_ending (symbol_at sig k)) (if last then 1 else 0)
 
+-- ---- which of several heads stands here
+
+abbrev pub equal_at : Sig → Names → ℕ → List ℕ → Read Head
+equal_at sig names count = choose (head_text sig names) (equal_heads count)
+
+abbrev pub signed_at : Sig → Names → List ℕ → Bool → List ℕ → Read Head
+signed_at sig names sorts sign = choose (head_text sig names) (signed_heads sig sorts sign)
+
+abbrev pub either_at : Sig → Names → List ℕ → List ℕ → Read Head
+either_at sig names sorts =
+    choose (head_text sig names) (signed_heads sig sorts false ++ signed_heads sig sorts true)
+
+abbrev pub head_at : Sig → Names → List ℕ → List ℕ → Read Head
+head_at sig names sorts = choose (head_text sig names) (heads sig sorts)
+
+abbrev pub body_head_at : Sig → Names → List ℕ → List ℕ → Read Head
+body_head_at sig names sorts = choose (head_text sig names) (Nothing ∷ heads sig sorts)
+
+-- the name of a symbol, and which text ends it
+abbrev pub name_at : Sig → Names → Bool → ℕ → List ℕ → Read ℕ
+name_at sig names sign k =
+    choice_at (mark sign) (symbol_name names k) (texts (name_ending (symbol_at sig k)))
+
 -- the head names a variable or a symbol
 abbrev pub IsHeadOf : Sig → List ℕ → Head → Type 0
 IsHeadOf sig sorts Forall = ⊤
@@ -125,7 +155,7 @@ IsHeadOf sig sorts Nothing = ⊤
 IsHeadOf sig sorts (Equal i) = i < length sorts
 IsHeadOf sig sorts (Applied sign k last) = k < length sig.symbols
 
--- ---- a denial behind its head: the literal, and whether it is the last
+-- ---- what follows the head of a denial: the literal, and whether the denial is the last
 
 unfoldable pub differ_at : List ℕ → ℕ → List ℕ → Read (Flat × Bool)
 differ_at sorts i bytes = do
@@ -153,8 +183,10 @@ value_at sig sorts f bytes = do
 unfoldable pub applied_at : Sig → List ℕ → Bool → ℕ → Bool → List ℕ → Read (Flat × Bool)
 applied_at sig sorts sign k last bytes =
     if has_arguments (symbol_at sig k)
-    then (if (symbol_at sig k).relation then fact_at sig sorts sign k bytes else value_at sig sorts k bytes)
-    else (if (symbol_at sig k).relation then Ok ((Fact sign k [], last), bytes) else constant_at sig sorts k bytes)
+    then (if (symbol_at sig k).relation then fact_at sig sorts sign k bytes
+    else value_at sig sorts k bytes)
+    else (if (symbol_at sig k).relation then Ok ((Fact sign k [], last), bytes)
+    else constant_at sig sorts k bytes)
 
 abbrev pub denied_at : Sig → List ℕ → Head → List ℕ → Read (Flat × Bool)
 denied_at sig sorts Forall bytes = Err (length bytes)
@@ -209,6 +241,10 @@ ended_sort names k x = ended [] (slice_index_or names.sorts x.0 []) (sort_ending
 abbrev pub sort_options : ℕ → ℕ → List (ℕ × ℕ)
 sort_options k s = map (λ e. (s, e)) (places (sort_ending k))
 
+-- the name of this sort, as that of variable k, and which text ends it
+abbrev pub sort_name_at : Names → ℕ → ℕ → List ℕ → Read ℕ
+sort_name_at names k s = choice_at [] (slice_index_or names.sorts s []) (texts (sort_ending k))
+
 -- the sort of variable k, and which text ends it
 unfoldable pub sort_at : Sig → Names → ℕ → List ℕ → Read (ℕ × ℕ)
 sort_at sig names k bytes =
@@ -219,7 +255,8 @@ unfoldable pub binder_at : Sig → Names → ℕ → List ℕ → Read (ℕ × B
 binder_at sig names k bytes = do
   s ← sort_at sig names k bytes
   if s.0.1 == 0 then Ok ((s.0.0, true), s.1)
-      else (literal_at (decimal (k + 1)) s.1 >>= λ number. literal_at (codes ":") number >>= λ rest. Ok ((s.0.0, false), rest))
+      else (literal_at (decimal (k + 1)) s.1 >>= λ number.
+      literal_at (codes ":") number >>= λ rest. Ok ((s.0.0, false), rest))
 
 -- ---- the whole
 
@@ -249,7 +286,11 @@ kept_from sig names level head bytes =
 
 -- what a clause may begin with, after its level
 abbrev pub first_heads : Sig → List Head
-first_heads sig = cond (sig.sorts == 0) (Nothing ∷ heads sig []) (Forall ∷ Nothing ∷ heads sig [])
+first_heads sig =
+    cond (sig.sorts == 0) (Nothing ∷ heads sig []) (Forall ∷ Nothing ∷ heads sig [])
+
+abbrev pub first_head_at : Sig → Names → List ℕ → Read Head
+first_head_at sig names = choose (head_text sig names) (first_heads sig)
 
 -- a clause of a level from `least` to `most`
 unfoldable pub clause_at : Sig → Names → ℕ → ℕ → List ℕ → Read Kept

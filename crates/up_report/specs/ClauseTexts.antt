@@ -31,7 +31,8 @@ symbol_name names k = slice_index_or names.symbols k []
 -- a name, and variables in brackets: `r(V0, V1)`; a name alone where there is no variable
 abbrev pub applied_text : List ℕ → List ℕ → List ℕ
 applied_text name [] = name
-applied_text name (v ∷ vs) = name ++ codes "(" ++ joined (codes ", ") (map variable_text (v ∷ vs)) ++ codes ")"
+applied_text name (v ∷ vs) =
+    name ++ codes "(" ++ joined (codes ", ") (map variable_text (v ∷ vs)) ++ codes ")"
 
 -- `!` in front of what denies a fact
 abbrev pub mark : Bool → List ℕ
@@ -42,7 +43,8 @@ mark sign = cond sign (codes "!") []
 abbrev pub denial_text : Names → Flat → List ℕ
 denial_text names (Differ i j) = variable_text i ++ codes " = " ++ variable_text j
 denial_text names (Fact sign r vs) = mark sign ++ applied_text (symbol_name names r) vs
-denial_text names (Value f vs v) = applied_text (symbol_name names f) vs ++ codes " != " ++ variable_text v
+denial_text names (Value f vs v) =
+    applied_text (symbol_name names f) vs ++ codes " != " ++ variable_text v
 
 -- the negations of these literals, one of which is to hold; `false` where there is none
 abbrev pub denials_text : Names → List Flat → List ℕ
@@ -53,18 +55,21 @@ denials_text names (lit ∷ lits) = joined (codes " | ") (map (denial_text names
 abbrev pub binder_texts : Names → ℕ → List ℕ → List (List ℕ)
 binder_texts names k [] = []
 binder_texts names k (s ∷ ss) =
-    (variable_text k ++ codes ":" ++ slice_index_or names.sorts s []) ∷ binder_texts names (k + 1) ss
+    (variable_text k ++ codes ":" ++ slice_index_or names.sorts s [])
+    ∷ binder_texts names (k + 1) ss
 
 -- the clause speaks of all values of its variables, if it has some: `forall V0:SORT, V1:SORT. `
 abbrev pub binders_text : Names → List ℕ → List ℕ
 binders_text names [] = []
-binders_text names (s ∷ ss) = codes "forall " ++ joined (codes ", ") (binder_texts names 0 (s ∷ ss)) ++ codes ". "
+binders_text names (s ∷ ss) =
+    codes "forall " ++ joined (codes ", ") (binder_texts names 0 (s ∷ ss)) ++ codes ". "
 
 -- a clause, up to the end of its line: its level, its variables, and the negations of the literals of
 -- the cube that it denies
 abbrev pub clause_text : Names → Kept → List ℕ
 clause_text names kept =
-    decimal kept.level ++ codes " " ++ binders_text names kept.cube.sorts ++ denials_text names kept.cube.lits ++ codes "\n"
+    decimal kept.level ++ codes " " ++ binders_text names kept.cube.sorts
+    ++ denials_text names kept.cube.lits ++ codes "\n"
 
 -- a well-sorted clause of a level in this range, over fewer than 2^32 variables
 pub record HasClause (sig : Sig) (least most : ℕ) (kept : Kept) : Type 0 where

@@ -1,9 +1,9 @@
 //! The variables that a clause binds.
 
-ghost use Rattle.std.specs.Prelude.{◌≡◌, ◌^◌, ◌-◌, ◌<◌, [], length, slice_index_or};
+ghost use Rattle.std.specs.Prelude.{◌≡◌, ◌^◌, ◌-◌, ◌<◌, length};
 ghost use Rattle.fo_text.specs.Texts.{NamesEach};
-ghost use Rattle.fo_text.specs.Reading.{Gives, choice_at};
-ghost use Rattle.up_report.specs.ClauseReading.{texts, sort_at, binder_at, chain, sort_ending as ending_of};
+ghost use Rattle.fo_text.specs.Reading.{Gives};
+ghost use Rattle.up_report.specs.ClauseReading.{sort_name_at, sort_at, binder_at, chain, sort_ending as ending_of};
 
 use crate::clause_heads::Ending;
 use crate::clause_words::ended;
@@ -33,7 +33,7 @@ fn read_sort_name<'a>(
 ) -> Result<(usize, &'a [u8]), Halt>
     requires within { sort < length names.now.sorts }
     requires fits { k < 2 ^ 64 - 1 }
-    ensures { Gives (λ x. (x.0, x.1.now)) result (choice_at [] (slice_index_or names.now.sorts sort []) (texts (ending_of k)) bytes.now) }
+    ensures { Gives (λ x. (x.0, x.1.now)) result (sort_name_at names.now k sort bytes.now) }
 {
     let name = names.sorts.at(sort as usize).as_str().as_bytes();
     ended(bytes, b"", name, sort_ending(k))

@@ -5,7 +5,8 @@ ghost use Rattle.fo_core.specs.Tables.{symbol_at};
 ghost use Rattle.fo_core.specs.Sorted.{IsSig};
 ghost use Rattle.fo_text.specs.Reading.{Gives, choice_at};
 ghost use Rattle.up_report.specs.ClauseTexts.{CanName};
-ghost use Rattle.up_report.specs.ClauseReading.{IsHeadOf, texts, stands, differ_at, fact_at, constant_at, value_at, applied_at, denied_at, denials_after, denials_from, body_from, body_at, chain, denial_at};
+ghost use Rattle.up_report.specs.ClauseReading.{IsHeadOf, stands, differ_at, fact_at, constant_at, value_at};
+ghost use Rattle.up_report.specs.ClauseReading.{applied_at, denied_at, denial_at, denials_after, denials_from, body_from, body_at};
 
 use crate::clause_heads::{Ending, Head, is_nothing};
 use crate::clause_symbols::{read_body_head, read_head};
@@ -39,7 +40,8 @@ fn read_fact<'a>(
 ) -> Result<(Flat, bool, &'a [u8]), Halt>
     requires few { length sorts.now < 2 ^ 32 }
     requires within { r < length sig.now.symbols }
-    ensures { Gives (λ x. ((x.0, x.1), x.2.now)) result (fact_at sig.now sorts.now sign r bytes.now) }
+    ensures { Gives (λ x. ((x.0, x.1), x.2.now)) result
+        (fact_at sig.now sorts.now sign r bytes.now) }
 {
     let wanted = sig.symbols.at(r as usize).args.as_slice();
     let (variables, rest) = read_arguments(alloc, sorts, wanted, bytes)?;
@@ -58,7 +60,8 @@ fn read_constant<'a>(
 ) -> Result<(Flat, bool, &'a [u8]), Halt>
     requires few { length sorts.now < 2 ^ 32 }
     requires within { f < length sig.now.symbols }
-    ensures { Gives (λ x. ((x.0, x.1), x.2.now)) result (constant_at sig.now sorts.now f bytes.now) }
+    ensures { Gives (λ x. ((x.0, x.1), x.2.now)) result
+        (constant_at sig.now sorts.now f bytes.now) }
 {
     let sort = sig.symbols.at(f as usize).result;
     let (v, e, rest) = read_variable(bytes, sorts, sort, Ending::Denial)?;
@@ -98,7 +101,8 @@ fn read_applied<'a>(
 ) -> Result<(Flat, bool, &'a [u8]), Halt>
     requires few { length sorts.now < 2 ^ 32 }
     requires within { k < length sig.now.symbols }
-    ensures { Gives (λ x. ((x.0, x.1), x.2.now)) result (applied_at sig.now sorts.now sign k last bytes.now) }
+    ensures { Gives (λ x. ((x.0, x.1), x.2.now)) result
+        (applied_at sig.now sorts.now sign k last bytes.now) }
 {
     let symbol = sig.symbols.at(k as usize);
     if symbol.args.is_empty() {
@@ -123,7 +127,8 @@ fn read_denied<'a>(
 ) -> Result<(Flat, bool, &'a [u8]), Halt>
     requires few { length sorts.now < 2 ^ 32 }
     requires head { IsHeadOf sig.now sorts.now head }
-    ensures { Gives (λ x. ((x.0, x.1), x.2.now)) result (denied_at sig.now sorts.now head bytes.now) }
+    ensures { Gives (λ x. ((x.0, x.1), x.2.now)) result
+        (denied_at sig.now sorts.now head bytes.now) }
 {
     match head {
         Head::Forall => Err(Halt::Fault(bytes.len())),
@@ -147,13 +152,14 @@ fn read_denial<'a>(
     requires named { CanName sig.now names.now }
     requires standing { standing.now ≡ map (stands sorts.now) sig.now.symbols }
     requires few { length sorts.now < 2 ^ 32 }
-    ensures { Gives (λ x. ((x.0, x.1), x.2.now)) result (denial_at sig.now names.now sorts.now bytes.now) }
+    ensures { Gives (λ x. ((x.0, x.1), x.2.now)) result
+        (denial_at sig.now names.now sorts.now bytes.now) }
 {
     let (head, rest) = read_head(bytes, sig, names, sorts, standing)?;
     read_denied(alloc, sig, sorts, head, rest)
 }
 
-/// Reads denials to the end of the line, and puts the literals behind these.
+/// Reads denials to the end of the line, and appends their literals to these.
 fn read_denials<'a>(
     alloc: Global,
     sig: &Sig,
@@ -167,7 +173,8 @@ fn read_denials<'a>(
     requires named { CanName sig.now names.now }
     requires standing { standing.now ≡ map (stands sorts.now) sig.now.symbols }
     requires few { length sorts.now < 2 ^ 32 }
-    ensures { Gives (λ x. (x.0, x.1.now)) result (denials_after sig.now names.now sorts.now lits bytes.now) }
+    ensures { Gives (λ x. (x.0, x.1.now)) result
+        (denials_after sig.now names.now sorts.now lits bytes.now) }
 {
     let mut rest = bytes;
     'each: for i in 0..bytes.len() + 1 {
@@ -197,7 +204,8 @@ fn read_denials_from<'a>(
     requires standing { standing.now ≡ map (stands sorts.now) sig.now.symbols }
     requires few { length sorts.now < 2 ^ 32 }
     requires head { IsHeadOf sig.now sorts.now head }
-    ensures { Gives (λ x. (x.0, x.1.now)) result (denials_from sig.now names.now sorts.now head bytes.now) }
+    ensures { Gives (λ x. (x.0, x.1.now)) result
+        (denials_from sig.now names.now sorts.now head bytes.now) }
 {
     let (lit, last, rest) = read_denied(alloc, sig, sorts, head, bytes)?;
     let mut lits = Seq::new(alloc);
@@ -223,7 +231,8 @@ pub fn read_body_from<'a>(
     requires standing { standing.now ≡ map (stands sorts.now) sig.now.symbols }
     requires few { length sorts.now < 2 ^ 32 }
     requires head { IsHeadOf sig.now sorts.now head }
-    ensures { Gives (λ x. (x.0, x.1.now)) result (body_from sig.now names.now sorts.now head bytes.now) }
+    ensures { Gives (λ x. (x.0, x.1.now)) result
+        (body_from sig.now names.now sorts.now head bytes.now) }
 {
     if is_nothing(head) {
         return Ok((Seq::new(alloc), bytes));

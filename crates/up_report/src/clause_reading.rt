@@ -58,7 +58,8 @@ fn read_free<'a>(
     requires named { CanName sig.now names.now }
     requires standing { standing.now ≡ map (stands []) sig.now.symbols }
     requires head { IsHeadOf sig.now [] head }
-    ensures { Gives (λ x. (x.0, x.1.now)) result (free_from sig.now names.now level head bytes.now) }
+    ensures { Gives (λ x. (x.0, x.1.now)) result
+        (free_from sig.now names.now level head bytes.now) }
 {
     let (lits, rest) = read_body_from(alloc, sig, names, &[], standing, head, bytes)?;
     let cube = Cube {
@@ -82,7 +83,8 @@ fn read_from<'a>(
     requires named { CanName sig.now names.now }
     requires standing { standing.now ≡ map (stands []) sig.now.symbols }
     requires head { IsHeadOf sig.now [] head }
-    ensures { Gives (λ x. (x.0, x.1.now)) result (kept_from sig.now names.now level head bytes.now) }
+    ensures { Gives (λ x. (x.0, x.1.now)) result
+        (kept_from sig.now names.now level head bytes.now) }
 {
     if is_forall(head) {
         return read_bound(alloc, sig, names, level, bytes);
@@ -107,7 +109,8 @@ pub fn read_clause<'a>(
     requires signature { IsSig sig.now }
     requires named { CanName sig.now names.now }
     requires range { least ≤ most }
-    ensures { Gives (λ x. (x.0, x.1.now)) result (clause_at sig.now names.now least most bytes.now) }
+    ensures { Gives (λ x. (x.0, x.1.now)) result
+        (clause_at sig.now names.now least most bytes.now) }
 {
     let (level, rest) = number(bytes, u64::from(least), u64::from(most), b' ')?;
     let standing = standing(alloc, sig, &[])?;

@@ -1,15 +1,16 @@
 //! Which symbols may stand in a clause, and the head of a denial.
 
-ghost use Rattle.std.specs.Prelude.{◌≡◌, ◌^◌, ◌<◌, ◌++◌, true, false, [], ◌∷◌, length, map, codes, decimal, IfSome, IfOk, Ok};
+ghost use Rattle.std.specs.Prelude.{◌≡◌, ◌^◌, ◌<◌, [], length, map, codes, decimal, IfSome, IfOk, Ok};
 ghost use Rattle.std.specs.List.{list_all};
 ghost use Rattle.fo_core.specs.Tables.{symbol_at};
 ghost use Rattle.fo_core.specs.Sorted.{IsSig};
 ghost use Rattle.fo_text.specs.Texts.{NamesEach};
-ghost use Rattle.fo_text.specs.Reading.{Gives, literal_at, choose, choice_at};
-ghost use Rattle.up_report.specs.declared.clause_heads.Head.TheVariants.{Forall, Nothing, Equal, Applied};
+ghost use Rattle.fo_text.specs.Reading.{Gives, literal_at};
 ghost use Rattle.up_report.specs.declared.clause_heads.Ending.TheVariants.{Equality};
-ghost use Rattle.up_report.specs.ClauseTexts.{CanName, symbol_name, mark as mark_of};
-ghost use Rattle.up_report.specs.ClauseReading.{texts, has_variable, stands as stands_of, may_stand as may_stand_of, ended as ended_text, name_ending as ending_of, symbol_heads, signed_heads, equal_heads, heads, head_text, first_heads};
+ghost use Rattle.up_report.specs.ClauseTexts.{CanName, mark as mark_of};
+ghost use Rattle.up_report.specs.ClauseReading.{has_variable, stands as stands_of, may_stand as may_stand_of};
+ghost use Rattle.up_report.specs.ClauseReading.{ended as ended_text, name_ending as ending_of, name_at};
+ghost use Rattle.up_report.specs.ClauseReading.{equal_at, signed_at, either_at, head_at, body_head_at, first_head_at};
 
 use crate::clause_heads::{Ending, Head};
 use crate::clause_words::{ended, guess, later};
@@ -79,7 +80,7 @@ fn read_name<'a>(
 ) -> Result<(usize, &'a [u8]), Halt>
     requires named { NamesEach sig.now names.now }
     requires within { k < length sig.now.symbols }
-    ensures { Gives (λ x. (x.0, x.1.now)) result (choice_at (mark_of sign) (symbol_name names.now k) (texts (ending_of (symbol_at sig.now k))) bytes.now) }
+    ensures { Gives (λ x. (x.0, x.1.now)) result (name_at sig.now names.now sign k bytes.now) }
 {
     let name = names.symbols.at(k).as_str().as_bytes();
     ended(bytes, mark(sign), name, name_ending(sig.symbols.at(k)))
@@ -106,7 +107,8 @@ fn read_signed<'a>(
     requires signature { IsSig sig.now }
     requires named { NamesEach sig.now names.now }
     requires standing { standing.now ≡ map (stands_of sorts.now) sig.now.symbols }
-    ensures { Gives (λ x. (x.0, x.1.now)) result (choose (head_text sig.now names.now) (signed_heads sig.now sorts.now sign) bytes.now) }
+    ensures { Gives (λ x. (x.0, x.1.now)) result
+        (signed_at sig.now names.now sorts.now sign bytes.now) }
 {
     let mut least = bytes.len();
     'each: for k in 0..sig.symbols.len() {
@@ -133,7 +135,7 @@ fn read_symbol<'a>(
     requires signature { IsSig sig.now }
     requires named { NamesEach sig.now names.now }
     requires standing { standing.now ≡ map (stands_of sorts.now) sig.now.symbols }
-    ensures { Gives (λ x. (x.0, x.1.now)) result (choose (head_text sig.now names.now) (signed_heads sig.now sorts.now false ++ signed_heads sig.now sorts.now true) bytes.now) }
+    ensures { Gives (λ x. (x.0, x.1.now)) result (either_at sig.now names.now sorts.now bytes.now) }
 {
     match read_signed(bytes, sig, names, sorts, standing, false) {
         Ok(found) => Ok(found),
@@ -146,7 +148,8 @@ fn read_symbol<'a>(
 
 /// Reads this variable as one of two that aren't to differ.
 fn read_equal<'a>(bytes: &'a [u8], v: u32) -> Result<&'a [u8], Halt>
-    ensures { Gives (λ rest. rest.now) result (literal_at (ended_text (codes "V") (decimal v) Equality 0) bytes.now) }
+    ensures { Gives (λ rest. rest.now) result
+        (literal_at (ended_text (codes "V") (decimal v) Equality 0) bytes.now) }
 {
     let mut buffer = Buffer::new();
     let rest = literal(bytes, b"V")?;
@@ -156,7 +159,8 @@ fn read_equal<'a>(bytes: &'a [u8], v: u32) -> Result<&'a [u8], Halt>
 
 /// The variable at the front, if it is one of two that aren't to differ.
 fn find_equal<'a>(bytes: &'a [u8], count: usize) -> Option<(u32, &'a [u8])>
-    ensures { IfSome result (λ x. (x.0 < count) × (literal_at (ended_text (codes "V") (decimal x.0) Equality 0) bytes.now ≡ Ok x.1.now)) }
+    ensures { IfSome result (λ x. (x.0 < count) ×
+        (literal_at (ended_text (codes "V") (decimal x.0) Equality 0) bytes.now ≡ Ok x.1.now)) }
 {
     if bytes.is_empty() {
         return None;
@@ -179,7 +183,7 @@ fn try_equal<'a>(
     count: usize,
 ) -> Result<(Head, &'a [u8]), Halt>
     requires few { count < 2 ^ 32 }
-    ensures { Gives (λ x. (x.0, x.1.now)) result (choose (head_text sig.now names.now) (equal_heads count) bytes.now) }
+    ensures { Gives (λ x. (x.0, x.1.now)) result (equal_at sig.now names.now count bytes.now) }
 {
     let mut least = bytes.len();
     'each: for v in 0..count {
@@ -204,7 +208,7 @@ pub fn read_head<'a>(
     requires named { CanName sig.now names.now }
     requires standing { standing.now ≡ map (stands_of sorts.now) sig.now.symbols }
     requires few { length sorts.now < 2 ^ 32 }
-    ensures { Gives (λ x. (x.0, x.1.now)) result (choose (head_text sig.now names.now) (heads sig.now sorts.now) bytes.now) }
+    ensures { Gives (λ x. (x.0, x.1.now)) result (head_at sig.now names.now sorts.now bytes.now) }
 {
     if let Some((v, rest)) = find_equal(bytes, sorts.len()) {
         return Ok((Head::Equal(v), rest));
@@ -228,7 +232,8 @@ pub fn read_body_head<'a>(
     requires named { CanName sig.now names.now }
     requires standing { standing.now ≡ map (stands_of sorts.now) sig.now.symbols }
     requires few { length sorts.now < 2 ^ 32 }
-    ensures { Gives (λ x. (x.0, x.1.now)) result (choose (head_text sig.now names.now) (Nothing ∷ heads sig.now sorts.now) bytes.now) }
+    ensures { Gives (λ x. (x.0, x.1.now)) result
+        (body_head_at sig.now names.now sorts.now bytes.now) }
 {
     match literal(bytes, b"false\n") {
         Ok(rest) => Ok((Head::Nothing, rest)),
@@ -247,7 +252,7 @@ pub fn read_first_head<'a>(
     requires signature { IsSig sig.now }
     requires named { CanName sig.now names.now }
     requires standing { standing.now ≡ map (stands_of []) sig.now.symbols }
-    ensures { Gives (λ x. (x.0, x.1.now)) result (choose (head_text sig.now names.now) (first_heads sig.now) bytes.now) }
+    ensures { Gives (λ x. (x.0, x.1.now)) result (first_head_at sig.now names.now bytes.now) }
 {
     if sig.sorts == 0 {
         return read_body_head(bytes, sig, names, &[], standing);

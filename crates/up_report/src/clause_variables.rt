@@ -13,7 +13,8 @@ use std::alloc::Global;
 
 /// Reads the number of this variable and a text that ends it.
 fn read_number<'a>(bytes: &'a [u8], v: u32, ending: Ending) -> Result<(usize, &'a [u8]), Halt>
-    ensures { Gives (λ x. (x.0, x.1.now)) result (choice_at [] (decimal v) (texts ending) bytes.now) }
+    ensures { Gives (λ x. (x.0, x.1.now)) result
+        (choice_at [] (decimal v) (texts ending) bytes.now) }
 {
     let mut buffer = Buffer::new();
     ended(bytes, b"", buffer.format(v).as_bytes(), ending)
@@ -26,7 +27,8 @@ fn find_variable<'a>(
     sort: u32,
     ending: Ending,
 ) -> Option<(u32, usize, &'a [u8])>
-    ensures { IfSome result (λ x. variable_at sorts.now ending sort bytes.now ≡ Ok ((x.0, x.1), x.2.now)) }
+    ensures { IfSome result (λ x.
+        variable_at sorts.now ending sort bytes.now ≡ Ok ((x.0, x.1), x.2.now)) }
 {
     let v = guess(bytes);
     if v as usize >= sorts.len() {
@@ -49,7 +51,8 @@ fn try_variables<'a>(
     ending: Ending,
 ) -> Result<(u32, usize, &'a [u8]), Halt>
     requires few { length sorts.now < 2 ^ 32 }
-    ensures { Gives (λ x. ((x.0, x.1), x.2.now)) result (variable_at sorts.now ending sort bytes.now) }
+    ensures { Gives (λ x. ((x.0, x.1), x.2.now)) result
+        (variable_at sorts.now ending sort bytes.now) }
 {
     let mut least = bytes.len();
     'each: for v in 0..sorts.len() {
@@ -73,7 +76,8 @@ pub fn read_variable<'a>(
     ending: Ending,
 ) -> Result<(u32, usize, &'a [u8]), Halt>
     requires few { length sorts.now < 2 ^ 32 }
-    ensures { Gives (λ x. ((x.0, x.1), x.2.now)) result (variable_at sorts.now ending sort bytes.now) }
+    ensures { Gives (λ x. ((x.0, x.1), x.2.now)) result
+        (variable_at sorts.now ending sort bytes.now) }
 {
     match find_variable(bytes, sorts, sort, ending) {
         Some(found) => Ok(found),
@@ -81,7 +85,7 @@ pub fn read_variable<'a>(
     }
 }
 
-/// What ends an argument that so many follow.
+/// What ends an argument that this number of arguments follows.
 fn argument_ending(following: usize) -> Ending
     ensures { result ≡ ending_of following }
 {

@@ -15,7 +15,8 @@ pub fn ended<'a>(
     word: &[u8],
     ending: Ending,
 ) -> Result<(usize, &'a [u8]), Halt>
-    ensures { Gives (λ x. (x.0, x.1.now)) result (choice_at mark.now word.now (texts ending) bytes.now) }
+    ensures { Gives (λ x. (x.0, x.1.now)) result
+        (choice_at mark.now word.now (texts ending) bytes.now) }
 {
     match ending {
         Ending::Argument => choice_after(bytes, mark, word, &[b", V".as_slice()]),
@@ -37,19 +38,21 @@ pub fn guess(bytes: &[u8]) -> u32 {
         if !byte.is_ascii_digit() {
             return number;
         }
-        number = number.wrapping_mul(10).wrapping_add(u32::from(*byte));
-        number = number.wrapping_sub(48);
+        number = number
+            .wrapping_mul(10)
+            .wrapping_add(u32::from(*byte - b'0'));
     }
     number
 }
 
-/// What was read, where other heads failed before where so many bytes are left: of two faults the
+/// What was read, where this number of bytes was left at the fault of other heads: of two faults the
 /// later one stands.
 pub fn later<'a>(
     left: usize,
     read: Result<(Head, &'a [u8]), Halt>,
 ) -> Result<(Head, &'a [u8]), Halt>
-    ensures { (r : Read Head) → Gives (λ x. (x.0, x.1.now)) read.entry r → Gives (λ x. (x.0, x.1.now)) result (or_else (Err left) r) }
+    ensures { (r : Read Head) → Gives (λ x. (x.0, x.1.now)) read.entry r →
+        Gives (λ x. (x.0, x.1.now)) result (or_else (Err left) r) }
 {
     match read {
         Ok(found) => Ok(found),

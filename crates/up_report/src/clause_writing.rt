@@ -4,7 +4,8 @@ ghost use Rattle.std.specs.Prelude.{◌≡◌, ◌++◌, ◌<◌, [], length, ma
 ghost use Rattle.std.specs.List.{All, flat_map};
 ghost use Rattle.fo_text.specs.Texts.{NamesEach};
 ghost use Rattle.up_diagram.specs.Cubes.{IsCube, IsKnown};
-ghost use Rattle.up_report.specs.ClauseTexts.{joined, variable_text, applied_text, symbol_name, denial_text, denials_text, binder_texts, binders_text, clause_text};
+ghost use Rattle.up_report.specs.ClauseTexts.{joined, variable_text, applied_text, symbol_name, denial_text};
+ghost use Rattle.up_report.specs.ClauseTexts.{denials_text, binder_texts, binders_text, clause_text};
 
 use fo_core::{Names, Sig};
 use itoa::Buffer;
@@ -23,7 +24,8 @@ fn push_variable(into: &mut Vec<u8>, v: u32) -> Result<(), AllocError>
 
 /// Writes variables, each after a comma.
 fn push_more_variables(into: &mut Vec<u8>, variables: &[u32]) -> Result<(), AllocError>
-    ensures { OnOk result (into.new.items ≡ into.old.items ++ flat_map (λ v. codes ", " ++ variable_text v) variables.now) }
+    ensures { OnOk result (into.new.items ≡ into.old.items ++
+        flat_map (λ v. codes ", " ++ variable_text v) variables.now) }
 {
     'each: for v in variables {
         into.extend_from_slice(b", ")?;
@@ -34,7 +36,8 @@ fn push_more_variables(into: &mut Vec<u8>, variables: &[u32]) -> Result<(), Allo
 
 /// Writes variables with commas between them.
 fn push_variables(into: &mut Vec<u8>, variables: &[u32]) -> Result<(), AllocError>
-    ensures { OnOk result (into.new.items ≡ into.old.items ++ joined (codes ", ") (map variable_text variables.now)) }
+    ensures { OnOk result (into.new.items ≡ into.old.items ++
+        joined (codes ", ") (map variable_text variables.now)) }
 {
     match variables {
         [] => Ok(()),
@@ -53,7 +56,8 @@ fn push_applied(
     variables: &[u32],
 ) -> Result<(), AllocError>
     requires within { symbol < length names.now.symbols }
-    ensures { OnOk result (into.new.items ≡ into.old.items ++ applied_text (symbol_name names.now symbol) variables.now) }
+    ensures { OnOk result (into.new.items ≡ into.old.items ++
+        applied_text (symbol_name names.now symbol) variables.now) }
 {
     into.extend_from_slice(names.symbols.at(symbol as usize).as_str().as_bytes())?;
     if variables.is_empty() {
@@ -100,7 +104,8 @@ fn push_more_denials(
 ) -> Result<(), AllocError>
     requires named { NamesEach sig.now names.now }
     requires known { All (IsKnown sig.now) lits.now }
-    ensures { OnOk result (into.new.items ≡ into.old.items ++ flat_map (λ lit. codes " | " ++ denial_text names.now lit) lits.now) }
+    ensures { OnOk result (into.new.items ≡ into.old.items ++
+        flat_map (λ lit. codes " | " ++ denial_text names.now lit) lits.now) }
 {
     'each: for lit in lits {
         into.extend_from_slice(b" | ")?;
@@ -130,7 +135,8 @@ fn push_denials(
 /// Writes variable k with its sort.
 fn push_binder(into: &mut Vec<u8>, names: &Names, k: usize, sort: u32) -> Result<(), AllocError>
     requires within { sort < length names.now.sorts }
-    ensures { OnOk result (into.new.items ≡ into.old.items ++ (variable_text k ++ codes ":" ++ slice_index_or names.now.sorts sort [])) }
+    ensures { OnOk result (into.new.items ≡ into.old.items ++
+        (variable_text k ++ codes ":" ++ slice_index_or names.now.sorts sort [])) }
 {
     let mut buffer = Buffer::new();
     into.push(b'V')?;
@@ -142,7 +148,8 @@ fn push_binder(into: &mut Vec<u8>, names: &Names, k: usize, sort: u32) -> Result
 /// Writes the variables from the second one on with their sorts, each after a comma.
 fn push_more_binders(into: &mut Vec<u8>, names: &Names, sorts: &[u32]) -> Result<(), AllocError>
     requires within { All (λ s. s < length names.now.sorts) sorts.now }
-    ensures { OnOk result (into.new.items ≡ into.old.items ++ flat_map (λ u. codes ", " ++ u) (binder_texts names.now 1 sorts.now)) }
+    ensures { OnOk result (into.new.items ≡ into.old.items ++
+        flat_map (λ u. codes ", " ++ u) (binder_texts names.now 1 sorts.now)) }
 {
     'each: for (i, sort) in sorts.iter().enumerate() {
         into.extend_from_slice(b", ")?;

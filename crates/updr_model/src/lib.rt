@@ -7,5 +7,6 @@ mod on_model;
 mod reading;
 mod telling;
 
+pub use cycle::order_for;
 pub use on_model::{IfStratified, OnModel, OnStratified, OverModel};
 pub use pyv_sorts::Elaborated;

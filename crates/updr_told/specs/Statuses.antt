@@ -1,7 +1,7 @@
 -- The statuses of calls, and their numbers.
 use Rattle.std.specs.Prelude.{ℕ, Bool, nat_lt}
 use Rattle.updr_told.specs.declared.status.Status.{Status}
-use Rattle.updr_told.specs.declared.status.Status.TheVariants.{Holds, Unsafe, Over, Wrong, NotInductive, NothingToCheck, Usage, ReadFault, NotRead, Sorts, NotStratified, WriteFault, OutOfMemory, Unsupported, ReportNotRead, NotBuilt}
+use Rattle.updr_told.specs.declared.status.Status.TheVariants.{Holds, Unsafe, Over, Wrong, NotInductive, NothingToCheck, Usage, ReadFault, NotRead, Sorts, NotStratified, WriteFault, OutOfMemory, Unsupported, ReportNotRead}
 
 -- the number that a program ends with
 abbrev pub number_of : Status → ℕ
@@ -20,7 +20,6 @@ number_of WriteFault = 15
 number_of OutOfMemory = 16
 number_of Unsupported = 17
 number_of ReportNotRead = 18
-number_of NotBuilt = 19
 
 -- a call that ends so has printed what it was asked for, and is no refusal
 abbrev pub is_answer : Status → Bool

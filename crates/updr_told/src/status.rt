@@ -34,8 +34,6 @@ pub enum Status {
     Unsupported,
     /// A report isn't of the form of reports.
     ReportNotRead,
-    /// What was asked isn't built yet.
-    NotBuilt,
 }
 
 impl Status {
@@ -59,7 +57,6 @@ impl Status {
             Status::OutOfMemory => 16,
             Status::Unsupported => 17,
             Status::ReportNotRead => 18,
-            Status::NotBuilt => 19,
         }
     }
 }

@@ -8,6 +8,8 @@ use Rattle.fo_core.specs.declared.system.System.{System}
 use Rattle.fo_core.specs.SortGraph.{IsStratified}
 use Rattle.updr_told.specs.Statuses.{number_of}
 use Rattle.updr_told.specs.declared.status.Status.{Status}
+use Rattle.up_claims.specs.declared.report.Report.{Report}
+use Rattle.up_report.specs.Reports.{IsReport}
 use Rattle.updr_words.specs.Jobs.{Job}
 use Rattle.updr_table.specs.Rows.{Contents, content_at}
 use Rattle.updr_table.specs.Table.{AreComplete, Call, IsOneOf, NoneRefuses}
@@ -15,10 +17,10 @@ use Rattle.updr_model.specs.OneMeaning.{no_fault, one_meaning}
 use Rattle.updr_model.specs.OnModel.{Given, MeansGiven, cycle_row, fault_row}
 use Rattle.updr_model.specs.Texts.{MeansText}
 use Rattle.updr_top.specs.Bmc.{bmc_command}
-use Rattle.updr_top.specs.Check.{HasNoReport, check_command}
+use Rattle.updr_top.specs.Check.{check_command}
 use Rattle.updr_top.specs.Commands.{commands}
-use Rattle.updr_top.specs.Complete.{HasReport, IsComplete}
-use Rattle.updr_top.specs.Reports.{IsReport}
+use Rattle.updr_top.specs.Complete.{HasJudgeable, IsComplete}
+use Rattle.updr_top.specs.Reported.{HasNoReport, IsAsked, IsSecond, MeansReported, Reported, not_ordered}
 use Rattle.updr_top.specs.Verify.{verify_command}
 
 -- two names of other lengths aren't both the first word
@@ -39,17 +41,30 @@ module _ (contents : Contents) (sys : System) (names : Names) (means : MeansText
       let same = one_meaning (content_at contents 0) sys names means g.meant.sys g.meant.names given.text in
       none (subst (λ (s : System). IsStratified s p) same.0 is)
 
-  -- nor is a report of a run
-  reported : HasReport sys names contents → ((g : Given) × MeansGiven contents g × HasNoReport g) → ⊥
-  reported (r, is) (g, given, none) =
-      let same = one_meaning (content_at contents 0) sys names means g.meant.sys g.meant.names given.text in
-      none r (carried sys g.meant.sys names g.meant.names contents g.contents same.0 same.1 (sym given.same) is)
-    where
-      carried : (s t : System) (m n : Names) (x y : Contents) → s ≡ t → m ≡ n → x ≡ y → IsReport s.sig m (content_at x 1) r → IsReport t.sig n (content_at y 1) r
-      carried s t m n x y f g h i = rw (sym f, sym g, sym h) i
+  -- what the second file is over the meaning of the first, it is over each meaning of it
+  carried : (s t : System) (m n : Names) (x y : Contents) (r : Report) → s ≡ t → m ≡ n → x ≡ y → IsReport s.sig m (content_at x 1) r → IsReport t.sig n (content_at y 1) r
+  carried s t m n x y r f g h i = rw (sym f, sym g, sym h) i
 
-  check_unrefused : (job : Job) → HasReport sys names contents → NoneRefuses (check_command.rows job) contents
-  check_unrefused job has = (whole _, (whole _, (whole _, ((λ high. absurd (omega (arith, high))), ((λ high. absurd (omega (arith, high))), ((λ high. reported has), tt))))))
+  second : (r : Report) → IsReport sys.sig names (content_at contents 1) r → (g : Given) → MeansGiven contents g → IsSecond g r
+  second r is g given =
+      let same = one_meaning (content_at contents 0) sys names means g.meant.sys g.meant.names given.text in
+      carried sys g.meant.sys names g.meant.names contents g.contents r same.0 same.1 (sym given.same) is
+
+  -- a report isn't refused
+  reported : HasJudgeable sys names contents → ((g : Given) × MeansGiven contents g × HasNoReport g) → ⊥
+  reported (r, is, fit) (g, given, none) = none r (second r is g given)
+
+  -- nor is the system for want of an order
+  ordered_report : HasJudgeable sys names contents → ((g : Given) × MeansGiven contents g × ((h : Reported) × MeansReported g h × not_ordered.comes h)) → ⊥
+  ordered_report (r, is, fit) (g, given, (h, read, (asked, none))) =
+      let same = one_meaning (content_at contents 0) sys names means g.meant.sys g.meant.names given.text in
+      let one : r ≡ h.report = read.only r (second r is g given) in
+      let told : IsAsked r.verdict = subst (λ (x : Report). IsAsked x.verdict) (sym one) asked in
+      let here : IsStratified g.meant.sys purpose.Infer = subst (λ (s : System). IsStratified s purpose.Infer) same.0 (fit told) in
+      none (subst (λ (x : Given). IsStratified x.meant.sys purpose.Infer) (sym read.same) here)
+
+  check_unrefused : (job : Job) → HasJudgeable sys names contents → NoneRefuses (check_command.rows job) contents
+  check_unrefused job has = (whole _, (whole _, (whole _, ((λ high. reported has), ((λ high. ordered_report has), ((λ high. absurd (omega (arith, high))), ((λ high. absurd (omega (arith, high))), ((λ high. absurd (omega (arith, high))), ((λ high. absurd (omega (arith, high))), tt)))))))))
 
   verify_unrefused : (job : Job) → IsStratified sys purpose.Verify → NoneRefuses (verify_command.rows job) contents
   verify_unrefused job is = (whole _, (whole _, (whole _, ((λ high. ordered purpose.Verify is), ((λ high. absurd (omega (arith, high))), ((λ high. absurd (omega (arith, high))), ((λ high. absurd (omega (arith, high))), tt)))))))
@@ -60,15 +75,18 @@ module _ (contents : Contents) (sys : System) (names : Names) (means : MeansText
 -- ---- the statuses of answers
 
 module _ (contents : Contents) (n : ℕ) where
-  check_answers : (job : Job) → (n ≡ 16) ⊎ ((n < 10) × IsOneOf (check_command.rows job) contents n) → (n ≡ 0) ⊎ (n ≡ 6) ⊎ (n ≡ 16)
-  check_answers job (inl is) = inr (inr is)
+  check_answers : (job : Job) → (n ≡ 16) ⊎ ((n < 10) × IsOneOf (check_command.rows job) contents n) → (n ≡ 0) ⊎ (n ≡ 5) ⊎ (n ≡ 6) ⊎ (n ≡ 8) ⊎ (n ≡ 16)
+  check_answers job (inl is) = inr (inr (inr (inr is)))
   check_answers job (inr (low, inl (_, is))) = absurd (omega (arith, low, is))
   check_answers job (inr (low, inr (inl (_, is)))) = absurd (omega (arith, low, is))
   check_answers job (inr (low, inr (inr (inl (_, is))))) = absurd (omega (arith, low, is))
-  check_answers job (inr (low, inr (inr (inr (inl (_, is)))))) = inl is
-  check_answers job (inr (low, inr (inr (inr (inr (inl (_, is))))))) = inr (inl is)
-  check_answers job (inr (low, inr (inr (inr (inr (inr (inl (_, is)))))))) = absurd (omega (arith, low, is))
-  check_answers job (inr (low, inr (inr (inr (inr (inr (inr none))))))) = absurd none
+  check_answers job (inr (low, inr (inr (inr (inl (_, is)))))) = absurd (omega (arith, low, is))
+  check_answers job (inr (low, inr (inr (inr (inr (inl (_, is))))))) = absurd (omega (arith, low, is))
+  check_answers job (inr (low, inr (inr (inr (inr (inr (inl (_, is)))))))) = inl is
+  check_answers job (inr (low, inr (inr (inr (inr (inr (inr (inl (_, is))))))))) = inr (inr (inl is))
+  check_answers job (inr (low, inr (inr (inr (inr (inr (inr (inr (inl (_, is)))))))))) = inr (inl is)
+  check_answers job (inr (low, inr (inr (inr (inr (inr (inr (inr (inr (inl (_, is))))))))))) = inr (inr (inr (inl is)))
+  check_answers job (inr (low, inr (inr (inr (inr (inr (inr (inr (inr (inr none)))))))))) = absurd none
 
   verify_answers : (job : Job) → (n ≡ 16) ⊎ ((n < 10) × IsOneOf (verify_command.rows job) contents n) → (n ≡ 0) ⊎ (n ≡ 5) ⊎ (n ≡ 7) ⊎ (n ≡ 16)
   verify_answers job (inl is) = inr (inr (inr is))

@@ -1,3 +1,4 @@
 pub mod Complete
 pub mod Ended
-pub mod Reports
+pub mod Judgeable
+pub mod ReportEnds

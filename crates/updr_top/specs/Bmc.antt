@@ -1,5 +1,5 @@
 -- The command `bmc`: the shortest violating run of few steps.
-use Rattle.std.specs.Prelude.{◌≡◌, ◌≤◌, ℕ, List, [], ◌∷◌, ◌++◌, codes, decimal, refl, slice_index_or}
+use Rattle.std.specs.Prelude.{◌≡◌, ◌≤◌, ℕ, List, [], ◌∷◌, ◌++◌, codes, refl, slice_index_or}
 use Rattle.std.specs.List.{All}
 use Rattle.std.proofs.Common.{arith}
 use Rattle.clap.proofs.OnLiterals.{clap_on_literals}
@@ -11,9 +11,12 @@ use Rattle.fo_core.specs.Finds.{IsLight}
 use Rattle.fo_min.specs.declared.found.Excess.{Excess}
 use Rattle.pyv_sorts.specs.declared.model.Elaborated.{Elaborated}
 use Rattle.up_claims.specs.Breaking.{IsViolatingRunOf}
-use Rattle.up_claims.specs.declared.kind.Kind.{Kind}
-use Rattle.up_claims.specs.declared.kind.Kind.TheVariants as kind
+use Rattle.up_claims.specs.declared.kind.Kind.TheVariants.{Unroll}
+use Rattle.up_claims.specs.declared.report.Report.{Report}
+use Rattle.up_claims.specs.declared.verdict.Verdict.{Verdict}
+use Rattle.up_claims.specs.declared.verdict.Verdict.TheVariants as verdict
 use Rattle.up_claims.specs.RunQueries.{run_query, run_queries, HasNoRunOf, IsLeastRun}
+use Rattle.up_report.specs.Texts.{report_text}
 use Rattle.up_unroll.specs.Unrolling.{IsUnrollExcess}
 use Rattle.updr_told.specs.declared.status.Status.TheVariants.{Holds, Unsafe, Over}
 use Rattle.updr_words.specs.Forms.{Form, Number}
@@ -22,8 +25,6 @@ use Rattle.updr_table.specs.Commands.{Command}
 use Rattle.updr_table.specs.Rows.{Row}
 use Rattle.updr_model.specs.OnModel.{Given, IsSoundStratified, if_stratified, model_command}
 use Rattle.updr_top.specs.Options.{weight_option}
-use Rattle.updr_top.specs.Reports.{report_text}
-use Rattle.updr_top.specs.declared.report.Numbers.{Numbers}
 
 -- `--depth`, the most steps of a run that is looked for: from 0 to 32, and without it 10
 abbrev pub depth_option : Number
@@ -35,29 +36,12 @@ bmc_form = record { name = codes "bmc"; files = codes "MODEL" ∷ []; numbers = 
 
 -- ---- what is printed
 
-abbrev pub no_numbers : Numbers
-no_numbers = record { productive = 0; frontier = 0; clauses = 0 }
+-- the report of a verdict that no search with frames came to
+abbrev pub report_of : Verdict → Report
+report_of told = record { verdict = told; numbers = record { productive = 0; frontier = 0; clauses = 0 } }
 
--- the report of a verdict without a run
-abbrev pub verdict_text : List ℕ → List ℕ
-verdict_text verdict = codes "report 1\nverdict " ++ verdict ++ codes "\nnumbers 0 0 0\ndone\n"
-
-abbrev pub kind_word : Kind → List ℕ
-kind_word kind.Seed = codes "seed"
-kind_word kind.Root = codes "root"
-kind_word kind.Before = codes "before"
-kind_word kind.Block = codes "block"
-kind_word kind.Push = codes "push"
-kind_word kind.Unroll = codes "unroll"
-
-abbrev pub run_text : Elaborated → World → List ℕ
-run_text e w = report_text e.sys.sig e.names (record { world = w; numbers = no_numbers })
-
-abbrev pub no_run_text : ℕ → List ℕ
-no_run_text depth = verdict_text (codes "norun " ++ decimal depth)
-
-abbrev pub over_text : Kind → ℕ → List ℕ
-over_text k weight = verdict_text (codes "over " ++ kind_word k ++ codes " " ++ decimal weight)
+abbrev pub verdict_text : Elaborated → Verdict → List ℕ
+verdict_text e told = report_text e.sys.sig e.names (report_of told)
 
 -- ---- what there is: runs of at most so many steps, and queries of the search for them in their order
 
@@ -91,18 +75,18 @@ abbrev pub found : ℕ → ℕ → Row Given (Unit {0})
 found depth limit = record {
   status = Unsafe;
   comes = λ g. HasRun depth limit g.meant.sys;
-  says = λ g text left. (w : World) × FindsRun g.meant.sys limit depth w × (text ≡ run_text g.meant w);
+  says = λ g text left. (w : World) × FindsRun g.meant.sys limit depth w × (text ≡ verdict_text g.meant (verdict.Unsafe w));
 }
 
 abbrev pub not_found : ℕ → ℕ → Row Given (Unit {0})
-not_found depth limit = record { status = Holds; comes = λ g. HasNoRun depth limit g.meant.sys; says = λ g text left. text ≡ no_run_text depth }
+not_found depth limit = record { status = Holds; comes = λ g. HasNoRun depth limit g.meant.sys; says = λ g text left. text ≡ verdict_text g.meant (verdict.NoRun depth) }
 
 -- the weight of the first query above the limit is reported
 abbrev pub above : ℕ → ℕ → Row Given (Unit {0})
 above depth limit = record {
   status = Over;
   comes = λ g. IsAbove depth limit g.meant.sys;
-  says = λ g text left. (x : Excess) × IsUnrollExcess g.meant.sys limit depth x × (text ≡ over_text kind.Unroll x.weight);
+  says = λ g text left. (x : Excess) × IsUnrollExcess g.meant.sys limit depth x × (text ≡ verdict_text g.meant (verdict.Over Unroll x.weight));
 }
 
 abbrev pub bmc_table : ℕ → ℕ → List (Row Given (Unit {0}))

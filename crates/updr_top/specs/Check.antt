@@ -1,110 +1,126 @@
--- The command `check`: whether a report's run is a violating one.
-use Rattle.std.specs.Prelude.{◌≡◌, ℕ, List, [], ◌∷◌, ◌++◌, codes, decimal, None, refl, slice_index_or}
-use Rattle.std.proofs.Common.{arith, subst}
-use Rattle.clap.proofs.OnLiterals.{clap_on_literals}
+-- The command `check`: whether what a report says of a model is so.
+use Rattle.std.specs.Prelude.{◌≡◌, ℕ, List, [], ◌∷◌, ◌++◌, codes, decimal, slice_index_or, ⊤}
+use Rattle.std.specs.List.{All}
 use Rattle.fo_core.specs.declared.system.System.{System}
-use Rattle.fo_core.specs.declared.world.World.{World}
-use Rattle.fo_core.specs.Runs.{IsViolatingRun}
-use Rattle.pyv_sorts.specs.declared.model.Elaborated.{Elaborated}
-use Rattle.up_cert.specs.Spots.{IsFirstSpot}
+use Rattle.fo_core.specs.Finds.{IsLight}
+use Rattle.up_claims.specs.declared.verdict.Verdict.{Verdict}
+use Rattle.up_claims.specs.declared.verdict.Verdict.TheVariants as verdict
+use Rattle.up_claims.specs.Judging.{judge_queries}
+use Rattle.up_claims.specs.Verdicts.{Holds}
+use Rattle.up_cert.specs.declared.judged.Judged.TheVariants as judged
 use Rattle.up_cert.specs.declared.spot.Spot.{Spot}
 use Rattle.up_cert.specs.declared.spot.What.{What}
-use Rattle.up_cert.specs.declared.spot.What.TheVariants.{State, Init, Step, Safety, Start, Map, Leave, Run}
-use Rattle.updr_told.specs.Ends.{End, printing}
-use Rattle.updr_told.specs.declared.status.Status.TheVariants.{Holds, Wrong, NotBuilt}
+use Rattle.up_cert.specs.declared.spot.What.TheVariants as what
+use Rattle.up_cert.specs.Judging.{IsJudged}
+use Rattle.updr_told.specs.declared.status.Status.TheVariants as status
 use Rattle.updr_words.specs.Forms.{Form}
 use Rattle.updr_words.specs.Jobs.{Job}
 use Rattle.updr_table.specs.Commands.{Command}
-use Rattle.updr_table.specs.Rows.{Row, content_at}
-use Rattle.updr_model.specs.OnModel.{Given, IsSoundOnModel, model_command}
-use Rattle.updr_top.specs.Reports.{IsReport}
-use Rattle.updr_top.specs.declared.report.RunReport.{RunReport}
+use Rattle.updr_table.specs.Rows.{Row}
+use Rattle.updr_model.specs.OnModel.{Given, model_command}
+use Rattle.updr_top.specs.Options.{weight_option}
+use Rattle.updr_top.specs.Reported.{Reported, if_ordered, over_report}
 
--- `check MODEL REPORT`
+-- `check MODEL REPORT --weight W`
 abbrev pub check_form : Form
-check_form = record { name = codes "check"; files = codes "MODEL" ∷ codes "REPORT" ∷ []; numbers = []; flags = [] }
+check_form = record {
+  name = codes "check";
+  files = codes "MODEL" ∷ codes "REPORT" ∷ [];
+  numbers = weight_option ∷ [];
+  flags = [];
+}
 
--- ---- the report
+-- ---- what is printed
 
--- the bytes are this report of a run over the model's signature, and no other
-pub record IsTheReport (e : Elaborated) (bytes : List ℕ) (r : RunReport) : Type 0 where
-  pub is : IsReport e.sys.sig e.names bytes r
-  pub only : (other : RunReport) → IsReport e.sys.sig e.names bytes other → other ≡ r
+-- of a run only copy 0 is to be initial, and no number is told
+abbrev pub init_words : Verdict → ℕ → List ℕ
+init_words (verdict.Unsafe w) k = codes "init"
+init_words _ k = codes "init " ++ decimal k
 
--- they are none
-abbrev pub IsNoReport : Elaborated → List ℕ → Type 0
-IsNoReport e bytes = (r : RunReport) → ¬ IsReport e.sys.sig e.names bytes r
+-- how a spot of the verdict is printed
+abbrev pub spot_words : Verdict → What → ℕ → List ℕ
+spot_words told what.State k = codes "state " ++ decimal k
+spot_words told what.Init k = init_words told k
+spot_words told what.Step k = codes "step " ++ decimal k
+spot_words told what.Safety k = codes "safety"
+spot_words told what.Start k = codes "start"
+spot_words told what.Map k = codes "map " ++ decimal k
+spot_words told what.Leave k = codes "leave " ++ decimal k
+spot_words told what.Run k = codes "run"
 
--- so it is with the second file
-abbrev pub TheReport : Given → RunReport → Type 0
-TheReport g = IsTheReport g.meant (content_at g.contents 1)
+abbrev pub wrong_text : Verdict → Spot → List ℕ
+wrong_text told spot = codes "wrong " ++ spot_words told spot.what spot.number ++ codes "\n"
 
-abbrev pub HasNoReport : Given → Type 0
-HasNoReport g = IsNoReport g.meant (content_at g.contents 1)
+abbrev pub over_check_text : ℕ → List ℕ
+over_check_text weight = codes "over check " ++ decimal weight ++ codes "\n"
 
--- how a spot is printed
-abbrev pub spot_words : What → ℕ → List ℕ
-spot_words State k = codes "state " ++ decimal k
-spot_words Init k = codes "init"
-spot_words Step k = codes "step " ++ decimal k
-spot_words Safety k = codes "safety"
-spot_words Start k = codes "start"
-spot_words Map k = codes "map " ++ decimal k
-spot_words Leave k = codes "leave " ++ decimal k
-spot_words Run k = codes "run"
+-- ---- what a judgement comes to; each query may weigh at most so much
 
-abbrev pub wrong_text : Spot → List ℕ
-wrong_text spot = codes "wrong " ++ spot_words spot.what spot.number ++ codes "\n"
+-- the verdict says something of the system
+abbrev pub Claims : Verdict → Type 0
+Claims (verdict.Spent steps) = ⊥
+Claims (verdict.Over kind weight) = ⊥
+Claims _ = ⊤
 
-abbrev pub not_built_words : List ℕ → List ℕ
-not_built_words name = codes "not built yet: " ++ name
+-- what it says is so, and none of the queries that are to have no world for that is above the
+-- limit
+pub record IsConfirmed (sys : System) (limit : ℕ) (told : Verdict) : Type 0 where
+  pub claims : Claims told
+  pub holds : Holds sys told
+  pub light : All (IsLight sys.sig limit) (judge_queries sys told)
 
--- the world is a violating run, or this spot fails first; and the end says so
-pub data Judges (sys : System) (w : World) (end : End (Unit {0})) : Type 0 where
-  is_run : IsViolatingRun sys w → end ≡ printing Holds (codes "holds\n") None → Judges sys w end
-  fails_at : (spot : Spot) → ¬ IsViolatingRun sys w → IsFirstSpot sys w spot → end ≡ printing Wrong (wrong_text spot) None → Judges sys w end
+-- it isn't so, and this spot is the first that fails, as is found by queries that aren't above the
+-- limit
+pub record IsWrongAt (sys : System) (limit : ℕ) (told : Verdict) (spot : Spot) : Type 0 where
+  pub not_so : ¬ Holds sys told
+  pub first : IsJudged sys limit told (judged.Wrong spot)
+
+-- a query of this weight is above the limit, and all that is asked before it passes
+abbrev pub IsOverAt : System → ℕ → Verdict → ℕ → Type 0
+IsOverAt sys limit told weight = IsJudged sys limit told (judged.Over weight)
 
 -- ---- the table
 
--- the report's run is a violating one
-abbrev pub holds : Row Given (Unit {0})
-holds = record {
-  status = Holds;
-  comes = λ g. (r : RunReport) × TheReport g r × IsViolatingRun g.meant.sys r.world;
-  says = λ g text left. text ≡ codes "holds\n";
+abbrev pub holds : ℕ → Row Reported (Unit {0})
+holds limit = record {
+  status = status.Holds;
+  comes = λ r. IsConfirmed r.given.meant.sys limit r.report.verdict;
+  says = λ r text left. text ≡ codes "holds\n";
 }
 
--- it isn't, and the first spot that fails is printed
-abbrev pub wrong : Row Given (Unit {0})
-wrong = record {
-  status = Wrong;
-  comes = λ g. (r : RunReport) × TheReport g r × (¬ IsViolatingRun g.meant.sys r.world);
-  says = λ g text left. (r : RunReport) × (spot : Spot) × TheReport g r × IsFirstSpot g.meant.sys r.world spot × (text ≡ wrong_text spot);
+abbrev pub wrong : ℕ → Row Reported (Unit {0})
+wrong limit = record {
+  status = status.Wrong;
+  comes = λ r. (spot : Spot) × IsWrongAt r.given.meant.sys limit r.report.verdict spot;
+  says = λ r text left.
+      (spot : Spot) × IsWrongAt r.given.meant.sys limit r.report.verdict spot
+      × (text ≡ wrong_text r.report.verdict spot);
 }
 
--- the file of this name is no report of a run
-abbrev pub not_built : List ℕ → Row Given (Unit {0})
-not_built name = record { status = NotBuilt; comes = HasNoReport; says = λ g words left. words ≡ not_built_words name }
+abbrev pub too_heavy : ℕ → Row Reported (Unit {0})
+too_heavy limit = record {
+  status = status.Over;
+  comes = λ r. (weight : ℕ) × IsOverAt r.given.meant.sys limit r.report.verdict weight;
+  says = λ r text left.
+      (weight : ℕ) × IsOverAt r.given.meant.sys limit r.report.verdict weight
+      × (text ≡ over_check_text weight);
+}
+
+abbrev pub nothing : Row Reported (Unit {0})
+nothing = record {
+  status = status.NothingToCheck;
+  comes = λ r. ¬ Claims r.report.verdict;
+  says = λ r text left. text ≡ codes "nothing to check\n";
+}
+
+abbrev pub judge_table : ℕ → List (Row Reported (Unit {0}))
+judge_table limit = holds limit ∷ wrong limit ∷ too_heavy limit ∷ nothing ∷ []
+
+abbrev pub check_limit : Job → ℕ
+check_limit job = slice_index_or job.numbers 0 0
 
 abbrev pub check_rows : Job → List (Row Given (Unit {0}))
-check_rows job = holds ∷ wrong ∷ not_built (slice_index_or job.files 1 []) ∷ []
+check_rows job = over_report (if_ordered (judge_table (check_limit job)))
 
 abbrev pub check_command : Command (Unit {0})
 check_command = model_command check_form check_rows
-
--- ---- it is sound
-
-one_run : (g : Given) (r s : RunReport) → TheReport g r → TheReport g s → IsViolatingRun g.meant.sys r.world → IsViolatingRun g.meant.sys s.world
-one_run g r s is other run = subst (λ (x : RunReport). IsViolatingRun g.meant.sys x.world) (other.only r is.is) run
-
-pub check_sound : IsSoundOnModel check_form check_rows
-unfolding clap_on_literals
-check_sound = record {
-  simple = refl;
-  model = omega arith;
-  table = λ job. refl;
-  exclusive = λ job g model. (
-    (λ (r, is, run). ((λ (s, other, fails). fails (one_run g r s is other run)), ((λ none. none r is.is), tt))),
-    ((λ (r, is, _). ((λ none. none r is.is), tt)), ((λ _. tt), tt)),
-  );
-}

@@ -6,6 +6,8 @@ use Rattle.fo_core.specs.declared.order.Purpose.TheVariants as purpose
 use Rattle.fo_core.specs.declared.system.System.{System}
 use Rattle.fo_core.specs.SortGraph.{IsStratified}
 use Rattle.pv_base.specs.Counts.{Rose}
+use Rattle.up_claims.specs.declared.report.Report.{Report}
+use Rattle.up_report.specs.Reports.{IsReport}
 use Rattle.updr_words.specs.Jobs.{IsJob, Job}
 use Rattle.updr_table.specs.Commands.{Command, IsNamed}
 use Rattle.updr_table.specs.Rows.{Contents, content_at}
@@ -13,9 +15,8 @@ use Rattle.updr_table.specs.Table.{AreGood, Call}
 use Rattle.updr_model.specs.Texts.{MeansText}
 use Rattle.updr_top.specs.Bmc.{bmc_command}
 use Rattle.updr_top.specs.Check.{check_command}
-use Rattle.updr_top.specs.Reports.{IsReport}
+use Rattle.updr_top.specs.Reported.{IsAsked}
 use Rattle.updr_top.specs.Verify.{verify_command}
-use Rattle.updr_top.specs.declared.report.RunReport.{RunReport}
 
 -- the command is named, its words are read, its files are good, no put failed, and the first file
 -- means a system, of which P holds, with the contents of all files
@@ -32,9 +33,12 @@ pub record IsGoodCall {L : Type 0} (c : Command L) (P : System → Names → Con
   pub means : MeansText (content_at contents 0) sys names
   pub is : P sys names contents
 
--- the second file is a report of a run over the model's signature
-abbrev pub HasReport : System → Names → Contents → Type 0
-HasReport sys names contents = (r : RunReport) × IsReport sys.sig names (content_at contents 1) r
+-- the second file is a report over the model's signature, and where its verdict is judged by
+-- queries, the system is stratified for them
+abbrev pub HasJudgeable : System → Names → Contents → Type 0
+HasJudgeable sys names contents =
+    (r : Report) × IsReport sys.sig names (content_at contents 1) r
+    × (IsAsked r.verdict → IsStratified sys purpose.Infer)
 
 -- the system is stratified for this purpose
 abbrev pub IsStratifiedFor : Purpose → System → Names → Contents → Type 0
@@ -42,6 +46,9 @@ IsStratifiedFor purpose sys names contents = IsStratified sys purpose
 
 -- The statuses of good calls. Want of memory, 16, is always free.
 pub record IsComplete (words : List (List ℕ)) (call : Call (Unit {0})) : Type 0 where
-  pub check : IsGoodCall check_command HasReport words call → (call.number ≡ 0) ⊎ (call.number ≡ 6) ⊎ (call.number ≡ 16)
+  pub check :
+      IsGoodCall check_command HasJudgeable words call
+      → (call.number ≡ 0) ⊎ (call.number ≡ 5) ⊎ (call.number ≡ 6) ⊎ (call.number ≡ 8)
+      ⊎ (call.number ≡ 16)
   pub verify : IsGoodCall verify_command (IsStratifiedFor purpose.Verify) words call → (call.number ≡ 0) ⊎ (call.number ≡ 5) ⊎ (call.number ≡ 7) ⊎ (call.number ≡ 16)
   pub bmc : IsGoodCall bmc_command (IsStratifiedFor purpose.Infer) words call → (call.number ≡ 0) ⊎ (call.number ≡ 1) ⊎ (call.number ≡ 5) ⊎ (call.number ≡ 16)

@@ -1,9 +1,10 @@
 pub mod Bmc
 pub mod Check
+pub mod CheckSound
 pub mod Commands
 pub mod Complete
-pub mod Frames
 pub mod Options
-pub mod Reports
+pub mod Reading
+pub mod Reported
 pub mod Served
 pub mod Verify

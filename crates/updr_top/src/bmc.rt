@@ -1,19 +1,21 @@
-ghost use Rattle.std.specs.Prelude.{◌≡◌, ◌≤◌, ◌<◌, ◌^◌, length, IfOk, None};
+ghost use Rattle.std.specs.Prelude.{◌≡◌, ◌<◌, ◌≤◌, ◌^◌, length, IfOk, None};
+ghost use Rattle.std.specs.List.{All};
 ghost use Rattle.fo_core.specs.declared.order.Purpose.TheVariants as purpose;
 ghost use Rattle.fo_core.specs.SortGraph.{SortEdge, Rises};
 ghost use Rattle.fo_core.specs.Tables.{Fits};
+ghost use Rattle.up_claims.specs.declared.verdict.Verdict.TheVariants as verdict;
+ghost use Rattle.up_report.specs.Ranges.{HasVerdict};
 ghost use Rattle.updr_told.specs.Ends.{printing};
-ghost use Rattle.updr_told.specs.declared.status.Status.TheVariants.{Holds, Over, Unsafe};
+ghost use Rattle.updr_told.specs.declared.status.Status.TheVariants.{Unsafe};
 ghost use Rattle.updr_table.specs.Rows.{Contents, Ends};
 ghost use Rattle.updr_model.specs.Texts.{IsModel};
-ghost use Rattle.updr_top.specs.Bmc.{bmc_table, kind_word, no_run_text, over_text, run_text, verdict_text};
+ghost use Rattle.updr_top.specs.Bmc.{bmc_table, verdict_text};
 
 use crate::options::{WEIGHT, finder};
-use crate::report::{Numbers, RunReport};
-use crate::report_text::write_report;
 use fo_core::{Finder, Order, Purpose, World};
 use std::alloc::{AllocError, Global};
-use up_claims::Kind;
+use up_claims::{Numbers, Report, Verdict};
+use up_report::write;
 use up_unroll::{Unrolled, unroll};
 use updr_model::{Elaborated, OnStratified};
 use updr_told::{Status, Stop, Told};
@@ -27,66 +29,52 @@ const DEPTH: Number = Number {
     most: 32,
 };
 
-/// No work stands behind what was found.
+/// No search with frames came to what is reported.
 const NO_NUMBERS: Numbers = Numbers {
     productive: 0,
     frontier: 0,
     clauses: 0,
 };
 
-/// The word of a kind of query.
-fn kind_word(kind: Kind) -> &'static str
-    ensures { result.now ≡ kind_word kind }
+/// The end that reports a verdict.
+fn reported(
+    alloc: Global,
+    meant: &Elaborated,
+    status: Status,
+    verdict: Verdict,
+) -> Result<Told<()>, AllocError>
+    requires model { IsModel meant.now.sys meant.now.names }
+    requires ranged { HasVerdict meant.now.sys.sig verdict }
+    ensures { IfOk result (λ end. end ≡ printing status (verdict_text meant.now verdict) None) }
 {
-    match kind {
-        Kind::Seed => "seed",
-        Kind::Root => "root",
-        Kind::Before => "before",
-        Kind::Block => "block",
-        Kind::Push => "push",
-        Kind::Unroll => "unroll",
+    let report = Report {
+        verdict,
+        numbers: NO_NUMBERS,
+    };
+    let mut text = Vec::new(alloc);
+    write(alloc, &meant.sys.sig, &meant.names, &report, &mut text)?;
+    Ok(Told::printing(alloc, status, text))
+}
+
+/// Looks at each size, so that it is known to be a number of 32 bits, as the text of a world asks.
+fn go_through(sizes: &[u32])
+    ensures { All (λ n. n < 2 ^ 32) sizes.now }
+{
+    'each: for size in sizes {
+        let _size = *size;
     }
-}
-
-/// The report of a verdict without a run.
-fn verdict_text(alloc: Global, verdict: &str) -> Result<Vec<u8>, AllocError>
-    ensures { IfOk result (λ text. text.items ≡ verdict_text verdict.now) }
-{
-    let text = format!(in alloc; "report 1\nverdict {verdict}\nnumbers 0 0 0\ndone\n")?;
-    Ok(text.into_bytes())
-}
-
-/// The end that reports that there is no run.
-fn no_run(alloc: Global, depth: u32) -> Result<Told<()>, AllocError>
-    ensures { IfOk result (λ end. end ≡ printing Holds (no_run_text depth) None) }
-{
-    let verdict = format!(in alloc; "norun {depth}")?;
-    Ok(Told::printing(alloc, Status::Holds, verdict_text(alloc, &verdict)?))
-}
-
-/// The end that reports a query that is too heavy.
-fn over_query(alloc: Global, kind: Kind, weight: u64) -> Result<Told<()>, AllocError>
-    ensures { IfOk result (λ end. end ≡ printing Over (over_text kind weight) None) }
-{
-    let word = kind_word(kind);
-    let verdict = format!(in alloc; "over {word} {weight}")?;
-    Ok(Told::printing(alloc, Status::Over, verdict_text(alloc, &verdict)?))
 }
 
 /// The end that reports a violating run.
 fn unsafe_run(alloc: Global, meant: &Elaborated, world: World) -> Result<Told<()>, AllocError>
     requires model { IsModel meant.now.sys meant.now.names }
     requires fits { Fits meant.now.sys.sig world }
-    requires few { length world.copies < 2 ^ 32 }
-    ensures { IfOk result (λ end. end ≡ printing Unsafe (run_text meant.now world) None) }
+    requires few { length world.copies ≤ 65 }
+    ensures { IfOk result (λ end. end
+        ≡ printing Unsafe (verdict_text meant.now (verdict.Unsafe world)) None) }
 {
-    let report = RunReport {
-        world,
-        numbers: NO_NUMBERS,
-    };
-    let mut text = Vec::new(alloc);
-    write_report(alloc, &meant.sys.sig, &meant.names, &report, &mut text)?;
-    Ok(Told::printing(alloc, Status::Unsafe, text))
+    go_through(world.sizes.as_slice());
+    reported(alloc, meant, Status::Unsafe, Verdict::Unsafe(world))
 }
 
 /// The end that reports what a search for a violating run of at most so many steps finds.
@@ -106,8 +94,11 @@ fn unrolled<F: Finder>(
 {
     match unroll(alloc, finder, &meant.sys, order, depth)? {
         Unrolled::Run(world) => unsafe_run(alloc, meant, world),
-        Unrolled::NoRun => no_run(alloc, depth),
-        Unrolled::Over(kind, excess) => over_query(alloc, kind, excess.weight),
+        Unrolled::NoRun => reported(alloc, meant, Status::Holds, Verdict::NoRun(depth)),
+        Unrolled::Over(kind, excess) => {
+            let verdict = Verdict::Over(kind, excess.weight);
+            reported(alloc, meant, Status::Over, verdict)
+        }
     }
 }
 

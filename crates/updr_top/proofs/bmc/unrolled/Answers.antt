@@ -9,7 +9,8 @@ use Rattle.fo_core.specs.Sorted.{IsSystem}
 use Rattle.up_claims.specs.RunQueries.{run_queries, HasNoRunOf}
 use Rattle.up_unroll.proofs.OneRun.{run-no-excess, none-no-excess}
 use Rattle.up_claims.specs.declared.kind.Kind.{Kind}
-use Rattle.updr_top.specs.Bmc.{FindsRun, HasRun, HasNoRun, over_text}
+use Rattle.up_claims.specs.declared.verdict.Verdict.TheVariants as verdict
+use Rattle.updr_top.specs.Bmc.{FindsRun, HasRun, HasNoRun, verdict_text}
 use Rattle.updr_top.proofs.Ended.{if_end}
 use Rattle.updr_top.proofs.bmc.unrolled.Goals as goal
 
@@ -40,10 +41,10 @@ returns-in-NoRun g c =
     let found = rw (c.in-NoRun.is) at c.in_ok-world.ensures.found in
     let sys = c.args.meant.now.sys in
     let limit = g.F.Finder.limit c.args.finder.now in
-    if_end c.no_run.result _ _ (λ e is cs. inr (inl (record { comes = has_no_run sys limit c.args.depth found.0 found.1; bytes = _; left = None; says = refl; is = is }))) c.no_run.ensures
+    if_end c.reported.result _ _ (λ e is cs. inr (inl (record { comes = has_no_run sys limit c.args.depth found.0 found.1; bytes = _; left = None; says = refl; is = is }))) c.reported.ensures
 
 pub returns-in-Over : goal.returns-in-Over
 returns-in-Over g c =
     let found = rw (c.in-Over.is) at c.in_ok-world.ensures.found in
-    if_end c.over_query.result _ _
-    (λ e is cs. inr (inr (inl (record { comes = (c.in-Over.excess, found.1); bytes = _; left = None; says = (c.in-Over.excess, found.1, ap (λ (k : Kind). over_text k c.in-Over.excess.weight) found.0); is = is })))) c.over_query.ensures
+    if_end c.reported-in-Over.result _ _
+    (λ e is cs. inr (inr (inl (record { comes = (c.in-Over.excess, found.1); bytes = _; left = None; says = (c.in-Over.excess, found.1, ap (λ (k : Kind). verdict_text c.args.meant.now (verdict.Over k c.in-Over.excess.weight)) found.0); is = is })))) c.reported-in-Over.ensures
