@@ -7,7 +7,7 @@ use Rattle.up_machine.specs.declared.event.Origin.TheVariants as O
 use Rattle.up_machine.specs.declared.limits.Limits.{Limits}
 use Rattle.up_machine.specs.Legal.{IsLegal, Legal}
 use Rattle.up_machine.specs.Machine.{Clause, Status, Ready, Done, Obligation, Given, Work, Push, Machine, start}
-use Rattle.up_machine.specs.Replay.{change_at, raised, retired, with_status, set_status, wake, finish, parent_of, clauses_after, obligations_after, job_of_event, is_productive, count_if, happens, replay}
+use Rattle.up_machine.specs.Replay.{change_at, raised, retired, with_status, set_status, wake, finish, parent_of, clauses_after, obligations_after, frontier_after, job_of_event, is_productive, count_if, happens, replay}
 use Rattle.up_machine.proofs.Histories.{along}
 
 pub length-push : {X : Type 0} (xs : List X) (x : X) → length (xs ++ x ∷ []) ≡ suc (length xs)
@@ -50,6 +50,14 @@ obligations_low (E.Before w (O.Step p)) (Some (Work k level below world)) n os =
     subst (λ x. x ≤ suc (length os)) (sym (length-push (set_status _ k os) _ ∙ ap suc (length-change k _ os))) (omega arith)
 obligations_low e job n os = no_more (is_productive e) (length os)
 
+frontier_low : (e : Event) (n : ℕ) → frontier_after e n ≤ count_if (is_productive e) n
+frontier_low (E.Advance w) n = omega arith
+frontier_low e n = no_more (is_productive e) n
+
+further : (b : Bool) (a n p : ℕ) → a ≤ count_if b n → n ≤ suc p → a ≤ suc (count_if b p)
+further true a n p le low = omega (arith, le, low)
+further false a n p le low = omega (arith, le, low)
+
 -- what grows with productive events alone stays below their number
 grown : (b : Bool) (a n p : ℕ) → a ≤ count_if b n → n ≤ p → a ≤ count_if b p
 grown true a n p le low = omega (arith, le, low)
@@ -62,16 +70,18 @@ paid false p steps can le = le
 pub record AreFew (limits : Limits) (m : Machine) : Type 0 where
   pub clauses : length m.clauses ≤ m.productive
   pub obligations : length m.obligations ≤ m.productive
+  pub frontier : m.frontier ≤ suc m.productive
   pub steps : m.productive ≤ limits.steps
 
 event_few : (sys : System) (limits : Limits) (m : Machine) (e : Event) → AreFew limits m → IsLegal sys limits m e → AreFew limits (happens m e)
 event_few sys limits m e few legal = record {
   clauses = grown (is_productive e) _ (length m.clauses) m.productive (clauses_low e (job_of_event m e) m.clauses) few.clauses;
   obligations = grown (is_productive e) _ (length m.obligations) m.productive (obligations_low e (job_of_event m e) m.frontier m.obligations) few.obligations;
+  frontier = further (is_productive e) (frontier_after e m.frontier) m.frontier m.productive (frontier_low e m.frontier) few.frontier;
   steps = paid (is_productive e) m.productive limits.steps legal.affordable few.steps;
 }
 
 pub history_few : (sys : System) (limits : Limits) (history : List Event) → Legal sys limits history → AreFew limits (replay history)
 history_few sys limits history legal =
     along sys limits (AreFew limits) (λ m e few legal. event_few sys limits m e few legal) start history
-    (record { clauses = omega arith; obligations = omega arith; steps = omega arith }) legal
+    (record { clauses = omega arith; obligations = omega arith; frontier = omega arith; steps = omega arith }) legal

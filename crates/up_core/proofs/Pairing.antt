@@ -147,3 +147,28 @@ pairs-apart (x ∷ xs) (y ∷ ys) R S (suc k) f g h others here = (
   others 0 x y (λ e. absurd (omega (arith, e))) h.0,
   pairs-apart xs ys (λ j. R (suc j)) (λ j. S (suc j)) k f g h.1 (λ j a b n r. others (suc j) a b (λ e. n (omega (arith, e))) r) here,
 )
+
+-- a list beside itself
+pub pairs-same : {X : Type 0} (xs : List X) (R : ℕ → X → X → Type 0) → ((k : ℕ) (x : X) → R k x x) → Pairs xs xs R
+pairs-same [] R f = tt
+pairs-same (x ∷ xs) R f = (f 0 x, pairs-same xs (λ k. R (suc k)) (λ k. f (suc k)))
+
+-- at places that are there
+pub pairs-within : {X Y : Type 0} (xs : List X) (ys : List Y) (R S : ℕ → X → Y → Type 0) → ((k : ℕ) (x : X) (y : Y) → k < length ys → R k x y → S k x y) → Pairs xs ys R → Pairs xs ys S
+pairs-within [] [] R S f h = h
+pairs-within [] (y ∷ ys) R S f h = absurd h
+pairs-within (x ∷ xs) [] R S f h = absurd h
+pairs-within (x ∷ xs) (y ∷ ys) R S f h = (f 0 x y (omega arith) h.0, pairs-within xs ys (λ k. R (suc k)) (λ k. S (suc k)) (λ k a b lt r. f (suc k) a b (omega (arith, lt)) r) h.1)
+
+-- partners of partners
+pub pairs-through : {X Y Z : Type 0} (xs : List X) (ys : List Y) (zs : List Z) (R : ℕ → X → Y → Type 0) (T : ℕ → Y → Z → Type 0) (S : ℕ → X → Z → Type 0) →
+    ((k : ℕ) (x : X) (y : Y) (z : Z) → slice_get xs k ≡ Some x → R k x y → T k y z → S k x z) → Pairs xs ys R → Pairs ys zs T → Pairs xs zs S
+pairs-through [] [] [] R T S f h g = g
+pairs-through [] [] (z ∷ zs) R T S f h g = absurd g
+pairs-through [] (y ∷ ys) zs R T S f h g = absurd h
+pairs-through (x ∷ xs) [] zs R T S f h g = absurd h
+pairs-through (x ∷ xs) (y ∷ ys) [] R T S f h g = absurd g
+pairs-through (x ∷ xs) (y ∷ ys) (z ∷ zs) R T S f h g = (
+  f 0 x y z refl h.0 g.0,
+  pairs-through xs ys zs (λ k. R (suc k)) (λ k. T (suc k)) (λ k. S (suc k)) (λ k a b c e r t. f (suc k) a b c e r t) h.1 g.1,
+)

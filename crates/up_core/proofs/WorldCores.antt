@@ -1,6 +1,7 @@
 -- The machine in code after an event that brings a world or makes a clause go.
 use Rattle.std.proofs.Common.{◌≡◌, ℕ, zero, suc, ◌+◌, ◌-◌, ◌<◌, ◌≤◌, Bool, true, false, List, [], ◌∷◌, ◌++◌, length, sum, Option, None, Some, is_some, refl, sym, ap, subst, ◌∙◌, arith}
 use Rattle.std.specs.Global.{Vec}
+use Rattle.std.specs.Vec.{vec_len, vec_capacity}
 use Rattle.std.specs.Option.{option_to_list}
 use Rattle.std.specs.Prelude.{Result, Ok, Err, MatchResult}
 use Rattle.fo_core.specs.declared.order.Order.{Order}
@@ -13,7 +14,7 @@ use Rattle.up_machine.specs.declared.event.Origin.TheVariants as O
 use Rattle.up_machine.specs.declared.limits.Limits.{Limits}
 use Rattle.up_machine.specs.Legal.{IsLegal}
 use Rattle.up_machine.specs.Machine.{Given, Machine, held_by}
-use Rattle.up_machine.specs.Replay.{change_at, happens, replay, released}
+use Rattle.up_machine.specs.Replay.{change_at, happens, replay, released, is_productive}
 use Rattle.up_machine.proofs.Lists.{none_is_some, some_injective}
 use Rattle.up_core.specs.declared.state.State.{State}
 use Rattle.up_core.specs.declared.state.Progress.TheVariants as P
@@ -43,7 +44,7 @@ module _ (sys : System) (order : Order) (limits : Limits) (history : Vec Event) 
   abbrev view : CoreView
   view = record { sys = sys; order = order; limits = limits; history = history.items; spare = spare; variables = variables }
 
-  abbrev KeepsRoom : State → Type 0
+  abbrev pub KeepsRoom : State → Type 0
   KeepsRoom t = (n : ℕ) → HasSpare (n + 1) s → HasSpare n t
 
   pub off-of : (e : Event) → IsNow view e → s.ended ≡ false
@@ -51,6 +52,19 @@ module _ (sys : System) (order : Order) (limits : Limits) (history : Vec Event) 
 
   pub paid-low : s.productive < limits.steps → s.productive + 1 < 4294967296
   paid-low lt = let most = core.in_range.steps.high in omega (arith, lt)
+
+  -- what an event that can be made now finds
+  pub now-paid : (e : Event) → is_productive e ≡ true → IsNow view e → s.productive + 1 < 4294967296
+  now-paid e paid now_is = paid-low (subst (λ n. n < limits.steps) core.mirror.productive (now_is.open_for.affordable paid))
+
+  pub now-some : (e : Event) (w : ℕ) (g : Given) → held_by here.jobs w ≡ Some g → IsNow view e → 1 ≤ spare
+  now-some e w g held now_is = report-room sys order limits history s spare picks variables widest core w g held (off-of e now_is)
+
+  pub now-spare : (e : Event) (w : ℕ) (g : Given) → held_by here.jobs w ≡ Some g → IsNow view e → HasSpare 1 s
+  now-spare e w g held now_is = spare-down spare 1 s (now-some e w g held now_is) core.room.entries
+
+  pub now-push : (e : Event) (w : ℕ) (g : Given) → held_by here.jobs w ≡ Some g → IsNow view e → vec_len history < vec_capacity history
+  now-push e w g held now_is = let some = now-some e w g held now_is in omega (arith, core.room.events, some)
 
   step : (e : Event) (h : Vec Event) (t : State) (wide : ℕ) → widest ≤ wide → BringsFit variables wide here e → 1 ≤ spare → IsLegal sys limits here e → IsLonger history e h → KeepsRoom t →
       IsMirror sys (history.items ++ e ∷ []) (happens here e) t → ((happens here e).ending ≡ None → length (happens here e).jobs ≤ spare - 1) → IsCore sys order limits h t (spare - 1) picks variables wide
@@ -62,7 +76,7 @@ module _ (sys : System) (order : Order) (limits : Limits) (history : Vec Event) 
       (roomy-next variables wide here e (roomy-more variables widest variables wide here (omega arith) wider core.picks_for.roomy) brings)
 
   -- a report that is known to be possible now
-  report : (e : Event) (w : ℕ) (g : Given) (h : Vec Event) (t : State) (wide : ℕ) → widest ≤ wide → BringsFit variables wide here e → held_by here.jobs w ≡ Some g → IsKnown view e → IsNow view e →
+  pub report : (e : Event) (w : ℕ) (g : Given) (h : Vec Event) (t : State) (wide : ℕ) → widest ≤ wide → BringsFit variables wide here e → held_by here.jobs w ≡ Some g → IsKnown view e → IsNow view e →
       (happens here e).jobs ≡ released w here.jobs → IsLonger history e h → KeepsRoom t → IsMirror sys (history.items ++ e ∷ []) (happens here e) t → IsCore sys order limits h t (spare - 1) picks variables wide
   report e w g h t wide wider brings held known now_is jobs longer room mirror =
       step e h t wide wider brings (report-room sys order limits history s spare picks variables widest core w g held (off-of e now_is)) (legal-now view e known now_is) longer room mirror

@@ -3,6 +3,7 @@ pub mod Briefing
 pub mod Choice
 pub mod Holding
 pub mod Known
+pub mod Lapsing
 pub mod Listing
 pub mod Mirror
 pub mod Refuting

@@ -1,5 +1,5 @@
 -- What events do to the numbers, list by list.
-use Rattle.std.specs.Prelude.{ℕ, zero, suc, ◌-◌, false, not, nat_eq, option_map, List, Option, None, Some, slice_get}
+use Rattle.std.specs.Prelude.{ℕ, zero, suc, ◌-◌, false, true, not, nat_eq, option_map, List, Option, None, Some, slice_get}
 use Rattle.std.specs.List.{filter, find}
 use Rattle.std.specs.Option.{option_and_then, option_map_or}
 use Rattle.up_machine.specs.declared.event.Why.{Why}
@@ -93,3 +93,11 @@ before_of k found e = record {
 abbrev pub entry_before : List ObligationEntry → Option ℕ → ℕ → Option ObligationEntry
 entry_before es None found = None
 entry_before es (Some k) found = option_map (before_of k found) (slice_get es k)
+
+-- a clause that rose to this level: its failed push is of a lower one
+abbrev pub raised_entry : ℕ → ClauseEntry → ClauseEntry
+raised_entry level e = record e { level = level; failed = None }
+
+-- the entry of a clause that is learnt at this level by the event at this place
+abbrev pub new_entry : ℕ → ℕ → ClauseEntry
+new_entry found level = record { learnt = found; level = level; live = true; failed = None }

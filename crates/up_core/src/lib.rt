@@ -8,11 +8,14 @@ mod bringing;
 mod events;
 mod frames;
 mod kept;
+mod lapsing;
+mod learning;
 mod lists;
 mod refuting;
 mod state;
 mod steps;
 mod tasks;
+mod teaching;
 mod trying;
 mod worlds;
 

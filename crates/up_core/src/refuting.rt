@@ -12,7 +12,7 @@ use up_diagram::{Cube, Picks, meets};
 use up_machine::{Event, Origin};
 
 /// The cube that the event at a place learnt.
-fn cube_at(history: &[Event], place: usize) -> Option<&Cube>
+pub(crate) fn cube_at(history: &[Event], place: usize) -> Option<&Cube>
     ensures { option_map (λ cube. cube.now) result ≡
         option_and_then cube_of (slice_get history.now place) }
 {

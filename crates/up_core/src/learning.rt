@@ -1,0 +1,151 @@
+//! What Learn and Raise do to the clauses' entries. None of this takes memory.
+
+ghost use Rattle.std.specs.Prelude.{◌≡◌, ℕ, ◌+◌, ◌<◌, ◌≤◌, ◌^◌, Some, length};
+ghost use Rattle.up_core.specs.Becoming.{IsState};
+ghost use Rattle.up_core.specs.Lapsing.{AreLapsable, AreLapsedAbove, CanRise, IsLearnt, IsRaised};
+ghost use Rattle.up_core.specs.Refuting.{pushed_in};
+ghost use Rattle.up_core.specs.Room.{HasRoom, HasSpare};
+ghost use Rattle.up_core.specs.Steps.{change_where, finished, others_of, push_in, raised_entry, work_in};
+
+use crate::lapsing::{Lapse, lapse_all};
+use crate::lists::{finish_at, push_of, release, work_of};
+use crate::refuting::{cube_at, pushed_entry};
+use crate::state::{ClauseEntry, State};
+use fo_core::Sig;
+use up_diagram::Picks;
+use up_machine::Event;
+
+/// Takes away the failed pushes of clauses one level above this one whose steps begin in a state that
+/// it refutes.
+fn lapse_above(
+    history: &[Event],
+    sig: &Sig,
+    entry: &ClauseEntry,
+    clauses: &mut [ClauseEntry],
+    picks: &mut Picks,
+)
+    requires { CanRise history.now sig.now picks.old clauses.old entry.now }
+    ensures lapsed { AreLapsedAbove history.now sig.now clauses.old clauses.new entry.now }
+    ensures room { picks.new ≡ picks.old }
+{
+    if let Some(cube) = cube_at(history, entry.learnt) {
+        let level = entry.level + 1;
+        let lapse = Lapse {
+            history,
+            sig,
+            cube,
+            low: level,
+            high: level,
+        };
+        lapse_all(&lapse, clauses, picks);
+    }
+}
+
+/// The clause at a place, if one is given that is there, rises to this level.
+fn raise_to(clauses: &mut Vec<ClauseEntry>, place: Option<usize>, level: u32)
+    ensures items { clauses.new.items ≡ change_where place (raised_entry level) clauses.old.items }
+    ensures room { (n : ℕ) → HasRoom n clauses.old → HasRoom n clauses.new }
+{
+    if let Some(k) = place {
+        if k < clauses.len() {
+            let entry = &mut clauses[k];
+            entry.level = level;
+            entry.failed = None;
+        }
+    }
+}
+
+/// The clause at a place rises, whose entry this is.
+fn rise(
+    history: &[Event],
+    sig: &Sig,
+    entry: &ClauseEntry,
+    place: Option<usize>,
+    clauses: &mut Vec<ClauseEntry>,
+    picks: &mut Picks,
+)
+    requires { CanRise history.now sig.now picks.old clauses.old.items entry.now }
+    ensures raised { IsRaised history.now sig.now place clauses.old.items clauses.new.items entry.now }
+    ensures room { (n : ℕ) → HasRoom n clauses.old → HasRoom n clauses.new }
+    ensures picks { picks.new ≡ picks.old }
+{
+    lapse_above(history, sig, entry, clauses.as_mut_slice(), picks);
+    raise_to(clauses, place, entry.level + 1);
+}
+
+impl State {
+    /// The clause that the worker pushes rises, if it does so.
+    fn rise_pushed(&mut self, history: &[Event], sig: &Sig, picks: &mut Picks, worker: u32)
+        requires { (e : ClauseEntry) →
+            pushed_in worker self.old.clauses.items self.old.jobs.items ≡ Some e →
+            CanRise history.now sig.now picks.old self.old.clauses.items e }
+        ensures raised { let s = self.old in (e : ClauseEntry) →
+            pushed_in worker s.clauses.items s.jobs.items ≡ Some e →
+            IsRaised history.now sig.now (push_in worker s.jobs.items) s.clauses.items
+            self.new.clauses.items e }
+        ensures state { let s = self.old in IsState self.new
+            self.new.clauses.items s.obligations.items s.jobs.items
+            s.frontier s.secure s.calm s.productive s.ended }
+        ensures room { (n : ℕ) → HasSpare n self.old → HasSpare n self.new }
+        ensures picks { picks.new ≡ picks.old }
+    {
+        let place = push_of(self.jobs.as_slice(), worker);
+        let pushed = pushed_entry(self.clauses.as_slice(), self.jobs.as_slice(), worker);
+        if let Some(entry) = pushed {
+            rise(history, sig, &entry, place, &mut self.clauses, picks);
+        }
+    }
+
+    /// The clause that the worker pushes holds one frame further on.
+    pub(crate) fn raise(&mut self, history: &[Event], sig: &Sig, picks: &mut Picks, worker: u32)
+        requires productive { self.old.productive + 1 < 2 ^ 32 }
+        requires rise { (e : ClauseEntry) →
+            pushed_in worker self.old.clauses.items self.old.jobs.items ≡ Some e →
+            CanRise history.now sig.now picks.old self.old.clauses.items e }
+        ensures raised { let s = self.old in (e : ClauseEntry) →
+            pushed_in worker s.clauses.items s.jobs.items ≡ Some e →
+            IsRaised history.now sig.now (push_in worker s.jobs.items) s.clauses.items
+            self.new.clauses.items e }
+        ensures state { let s = self.old in IsState self.new
+            self.new.clauses.items s.obligations.items (others_of worker s.jobs.items)
+            s.frontier s.secure s.calm (s.productive + 1) s.ended }
+        ensures room { (n : ℕ) → HasSpare n self.old → HasSpare n self.new }
+        ensures picks { picks.new ≡ picks.old }
+    {
+        self.rise_pushed(history, sig, picks, worker);
+        release(&mut self.jobs, worker);
+        self.productive += 1;
+    }
+
+    /// A clause with this cube is learnt from the obligation that the worker works on, by the event
+    /// that is to stand at this place of the history.
+    pub(crate) fn learn(&mut self, lapse: &Lapse, picks: &mut Picks, worker: u32, found: usize)
+        requires productive { self.old.productive + 1 < 2 ^ 32 }
+        requires room { HasSpare 1 self.old }
+        requires low { lapse.now.low ≡ 0 }
+        requires meet { AreLapsable lapse.now.history.now lapse.now.sig.now lapse.now.cube.now
+            0 lapse.now.high self.old.clauses.items }
+        requires fits { length lapse.now.cube.now.sorts ≤ picks.old }
+        ensures learnt { IsLearnt lapse.now.history.now lapse.now.sig.now lapse.now.cube.now
+            lapse.now.high found self.old.clauses.items self.new.clauses.items }
+        ensures state { let s = self.old in IsState self.new
+            self.new.clauses.items
+            (finished (work_in worker s.jobs.items) s.obligations.items)
+            (others_of worker s.jobs.items)
+            s.frontier s.secure s.calm (s.productive + 1) s.ended }
+        ensures room { (n : ℕ) → HasSpare (n + 1) self.old → HasSpare n self.new }
+        ensures picks { picks.new ≡ picks.old }
+    {
+        lapse_all(lapse, self.clauses.as_mut_slice(), picks);
+        self.clauses.push_reserved(ClauseEntry {
+            learnt: found,
+            level: lapse.high,
+            live: true,
+            failed: None,
+        });
+        let work = work_of(self.jobs.as_slice(), worker);
+        finish_at(&mut self.obligations, work);
+        release(&mut self.jobs, worker);
+        self.productive += 1;
+    }
+}
