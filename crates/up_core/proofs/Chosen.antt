@@ -144,13 +144,13 @@ look-from (J.Work k) e = false_is_true e
 look-from (J.Push k) e = false_is_true e
 look-from (J.Trace k) e = false_is_true e
 
-push-from : (n : ℕ) (j : Job) → is_push_of n j ≡ true → j ≡ J.Push n
+pub push-from : (n : ℕ) (j : Job) → is_push_of n j ≡ true → j ≡ J.Push n
 push-from n (J.Push k) e = ap J.Push (eqb-true k n e)
 push-from n J.Look e = false_is_true e
 push-from n (J.Work k) e = false_is_true e
 push-from n (J.Trace k) e = false_is_true e
 
-push-to : (n : ℕ) (j : Job) → j ≡ J.Push n → is_push_of n j ≡ true
+pub push-to : (n : ℕ) (j : Job) → j ≡ J.Push n → is_push_of n j ≡ true
 push-to n j e = ap (is_push_of n) e ∙ eq-eqb n n refl
 
 -- jobs that are out

@@ -4,6 +4,7 @@ pub mod Changing
 pub mod Chosen
 pub mod Coming
 pub mod Counts
+pub mod CoverPairs
 pub mod EventCores
 pub mod Grounded
 pub mod Grown

@@ -1,6 +1,7 @@
 pub mod Becoming
 pub mod Briefing
 pub mod Choice
+pub mod Covering
 pub mod Holding
 pub mod Known
 pub mod Lapsing

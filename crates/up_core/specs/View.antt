@@ -1,5 +1,5 @@
 -- What contracts see of the machine in code.
-use Rattle.std.specs.Prelude.{◌≡◌, ℕ, ◌-◌, ◌^◌, ◌<◌, ◌≤◌, List, [], ◌∷◌, ◌++◌, length, sum, Some, slice_get, ⊤}
+use Rattle.std.specs.Prelude.{◌≡◌, ℕ, ◌-◌, ◌^◌, ◌<◌, ◌≤◌, List, [], ◌∷◌, ◌++◌, length, sum, None, Some, slice_get, ⊤}
 use Rattle.fo_core.specs.declared.order.Order.{Order}
 use Rattle.fo_core.specs.declared.system.System.{System}
 use Rattle.fo_core.specs.declared.world.World.{World}
@@ -10,6 +10,7 @@ use Rattle.up_machine.specs.declared.event.Origin.TheVariants as O
 use Rattle.up_machine.specs.declared.job.Job.{Job}
 use Rattle.up_machine.specs.declared.job.Job.TheVariants as J
 use Rattle.up_machine.specs.declared.limits.Limits.{Limits}
+use Rattle.up_machine.specs.Legal.{IsCover}
 use Rattle.up_machine.specs.Machine.{Machine, Obligation}
 use Rattle.up_machine.specs.Replay.{replay}
 
@@ -69,3 +70,7 @@ elements_in (O.Step p) = sum p.sizes
 
 abbrev pub HasFewElements : Origin → Type 0
 HasFewElements origin = elements_in origin < 2 ^ 32
+
+-- clause `gone` may be retired for clause `by`: there is no end, and the second covers the first
+abbrev pub MayRetire : Machine → ℕ → ℕ → Type 0
+MayRetire m gone by = (m.ending ≡ None) × IsCover m gone by

@@ -131,7 +131,7 @@ fn is_push_at(job: Job, clause: usize) -> bool
 }
 
 /// Whether the push of the clause is out.
-fn push_is_out(jobs: &[JobEntry], clause: usize) -> bool
+pub(crate) fn push_is_out(jobs: &[JobEntry], clause: usize) -> bool
     ensures { result ≡ has_job (is_push_of clause) jobs.now }
 {
     jobs.iter().any(|entry| is_push_at(entry.job, clause))
