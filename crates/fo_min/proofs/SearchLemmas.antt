@@ -32,6 +32,8 @@ use Rattle.fo_min.specs.declared.search.Numbers.{Numbers}
 use Rattle.fo_min.specs.declared.search.Numbers.TheVariants as All_of
 use Rattle.fo_min.specs.declared.search.Entries.{Entries}
 use Rattle.fo_min.specs.declared.search.NextSize.TheVariants as Sizes
+use Rattle.fo_min.specs.declared.search.Sizes.{Sizes as AllSizes}
+use Rattle.fo_min.specs.declared.search.Sizes.TheVariants as Every
 use Rattle.fo_min.specs.declared.search.Search.{Search}
 use Rattle.fo_min.specs.Cut.{AreInRange}
 use Rattle.fo_min.specs.Found.{IsExcess, IsFoundLeast}
@@ -39,7 +41,7 @@ use Rattle.fo_min.specs.Search.{sig_of, query_of, IsSearch, sorts_of, HasSizes, 
 use Rattle.fo_core.proofs.Pieces.{map_more}
 
 -- what holds of each element of a list, after those before it, and of one more
-each-more : (P : ℕ → List ℕ → ℕ → Type 0) (xs : List ℕ) (y : ℕ) → ((k : ℕ) → k < length xs → P k (take k xs) (get_or xs k 0)) → P (length xs) xs y →
+pub each-more : (P : ℕ → List ℕ → ℕ → Type 0) (xs : List ℕ) (y : ℕ) → ((k : ℕ) → k < length xs → P k (take k xs) (get_or xs k 0)) → P (length xs) xs y →
     (k : ℕ) → k < length (xs ++ y ∷ []) → P k (take k (xs ++ y ∷ [])) (get_or (xs ++ y ∷ []) k 0)
 each-more P xs y each last k lt = by_case (push-cases xs y k lt)
   where
@@ -168,7 +170,7 @@ module _ (sig : Sig) (q : Query) (limit : ℕ) (is : IsSig sig) (sorted : IsQuer
         let found = next_value sig q sizes values settled.1.0 is settled.1.1 all more in
         none found.0 found.1 settled.1.0 ((trial_means sig q sizes (values ++ found.0 ∷ []) is sorted (can_try_next found.0 found.1) settled.1.0).1 found.2)
 
-    value-settled : (v : ℕ) → IsNextValue sig q (is_relation_at sig q sizes (length values)) sizes values v →
+    pub value-settled : (v : ℕ) → IsNextValue sig q (is_relation_at sig q sizes (length values)) sizes values v →
         AreLight (value_trials sig q sizes values (tried sig q (is_relation_at sig q sizes (length values)) v)) → IsSettled sig q limit sizes (values ++ v ∷ [])
     value-settled v next lights = record {
       some = s.some;
@@ -296,7 +298,7 @@ module _ (s : Search) (limit : ℕ) (can : IsSearch s) (sizes : List ℕ) (more 
 -- ---- the next value, in a search whose sizes are settled
 
 -- there is a next entry
-some-entry : (e : Entries) → AreEntries e → (values : List ℕ) → length values < length e.cells.now →
+pub some-entry : (e : Entries) → AreEntries e → (values : List ℕ) → length values < length e.cells.now →
     length values < length (cells (sig_of e.search) e.sizes.now (query_of e.search).copies)
 some-entry e are values more = subst (λ (cs : List Cell). length values < length cs) are.all more
 
@@ -381,8 +383,8 @@ first-excess sig q p limit x same (e, weight, above) = record {
 }
 
 -- the sizes, and the values, that were found are settled
-pub sizes-found : (s : Search) (limit : ℕ) (a : Numbers) (sizes : List ℕ) → a ≡ All_of.Found sizes → AreSizesFound s limit a → AreSettled s limit sizes [] × (length sizes ≡ sorts_of s)
-sizes-found s limit a sizes e h = subst (AreSizesFound s limit) e h
+pub sizes-found : (s : Search) (limit : ℕ) (a : AllSizes) (sizes : List ℕ) (w : World) → a ≡ Every.Found sizes w → AreSizesFound s limit a → AreSettled s limit sizes [] × (length sizes ≡ sorts_of s) × HasSizes s sizes w
+sizes-found s limit a sizes w e h = subst (AreSizesFound s limit) e h
 
 pub values-found : (s : Search) (before limit : ℕ) (a : Numbers) (lent sizes values : List ℕ) → before ≡ limit → lent ≡ sizes → a ≡ All_of.Found values → AreValuesFound s before lent a →
     AreSettled s limit sizes values × (length values ≡ length (cells (sig_of s) sizes (query_of s).copies))

@@ -26,6 +26,8 @@ use Rattle.fo_min.specs.declared.search.NextValue.TheVariants as Values
 use Rattle.fo_min.specs.declared.search.Numbers.{Numbers}
 use Rattle.fo_min.specs.declared.search.Numbers.TheVariants as All_of
 use Rattle.fo_min.specs.declared.search.Search.{Search}
+use Rattle.fo_min.specs.declared.search.Sizes.{Sizes as AllSizes}
+use Rattle.fo_min.specs.declared.search.Sizes.TheVariants as Every
 use Rattle.fo_min.specs.Found.{IsExcess, IsFoundLeast}
 
 -- the place is one in the table of a symbol of the signature
@@ -102,10 +104,11 @@ module _ (s : Search) (limit : ℕ) where
       AreSettled (sizes ++ n ∷ []) [] × HasSizes s (sizes ++ n ∷ []) w
   IsSizeFound sizes (Sizes.Over x) = IsAbove x
 
-  -- all sizes are settled
-  abbrev pub AreSizesFound : Numbers → Type 0
-  AreSizesFound (All_of.Found sizes) = AreSettled sizes [] × (length sizes ≡ sorts_of s)
-  AreSizesFound (All_of.Over x) = IsAbove x
+  -- all sizes are settled, and the world has them
+  abbrev pub AreSizesFound : AllSizes → Type 0
+  AreSizesFound (Every.Found sizes w) =
+      AreSettled sizes [] × (length sizes ≡ sorts_of s) × HasSizes s sizes w
+  AreSizesFound (Every.Over x) = IsAbove x
 
   -- all values are settled
   abbrev pub AreValuesFound : List ℕ → Numbers → Type 0

@@ -3,7 +3,9 @@
 
 mod building;
 mod found;
+mod known;
 mod laws;
+mod naming;
 mod places;
 mod search;
 mod world;

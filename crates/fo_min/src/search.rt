@@ -1,4 +1,4 @@
-ghost use Rattle.std.specs.Prelude.{true, false, ◌≡◌, ◌<◌, ◌++◌, ◌∷◌, [], length, IfOk};
+ghost use Rattle.std.specs.Prelude.{true, false, ◌≡◌, ◌<◌, ◌++◌, ◌∷◌, [], length, replicate, IfOk, IsTrue};
 ghost use Rattle.fo_core.specs.Finds.{CanSearch, IsLight};
 ghost use Rattle.fo_core.specs.Queries.{MeetsQuery};
 ghost use Rattle.fo_min.specs.Found.{IsFoundLeast};
@@ -7,6 +7,7 @@ ghost use Rattle.fo_min.specs.Search.{IsQueryAnswer, IsSizeAnswer, IsSizeFound, 
 ghost use Rattle.fo_min.specs.Search.{AreValuesFound, IsSearchAnswer, AreEntries, range_next};
 ghost use Rattle.fo_min.specs.Search.{is_relation_next, AreValuesSettled, IsValueAnswer};
 ghost use Rattle.fo_min.specs.Search.{IsValueFound, AreEntriesFound};
+ghost use Rattle.fo_min.specs.Known.{AreAllLight, IsLesser};
 
 use crate::building::{size_trial, value_trial};
 use crate::found::{Excess, Least};
@@ -41,28 +42,45 @@ enum NextValue {
     Over(Excess),
 }
 
-/// How the search for all sizes, or for all values, ended.
+/// How the search for all sizes ended.
 #[derive(Drop)]
-enum Numbers {
+enum Sizes {
+    /// The sizes, and a world that has them.
+    Found(Seq<u32>, World),
+    Over(Excess),
+}
+
+/// How the search for all values ended.
+#[derive(Drop)]
+pub enum Numbers {
     Found(Seq<u32>),
     Over(Excess),
 }
 
+/// What the trials of the values below a bound showed, where none is above the limit.
+#[derive(Drop)]
+pub enum Lesser {
+    /// The least value that some world has, and that world.
+    Met(u32, World),
+    /// No world has any.
+    Nothing,
+}
+
 /// A search for the least of the worlds of a system's signature that meet a query.
 #[derive(Clone, Copy)]
-struct Search<'a> {
-    sys: &'a System,
-    order: &'a Order,
-    query: &'a Query,
+pub struct Search<'a> {
+    pub sys: &'a System,
+    pub order: &'a Order,
+    pub query: &'a Query,
 }
 
 /// What is left of it where the sizes of all sorts are settled: the search for the values of the
 /// table entries, which stand at these places.
 #[derive(Clone, Copy)]
-struct Entries<'a> {
-    search: Search<'a>,
-    sizes: &'a [u32],
-    cells: &'a [Cell],
+pub struct Entries<'a> {
+    pub search: Search<'a>,
+    pub sizes: &'a [u32],
+    pub cells: &'a [Cell],
 }
 
 /// Asks for a world that meets the query.
@@ -85,12 +103,24 @@ fn ask<F: Finder>(
 }
 
 /// The numbers, and this one after them.
-fn extended(alloc: Global, numbers: &[u32], n: u32) -> Result<Seq<u32>, AllocError>
+pub fn extended(alloc: Global, numbers: &[u32], n: u32) -> Result<Seq<u32>, AllocError>
     ensures { IfOk result (λ ms. ms ≡ numbers.now ++ n ∷ []) }
 {
     let mut more = Seq::from_vec(numbers.to_vec(alloc)?);
     more.push(n)?;
     Ok(more)
+}
+
+/// A list of `count` zeros.
+fn zeros(alloc: Global, count: usize) -> Result<Seq<u32>, AllocError>
+    ensures zeros { IfOk result (λ ns. ns ≡ replicate count 0) }
+    ensures count { IfOk result (λ ns. length ns ≡ count) }
+{
+    let mut numbers = Seq::new(alloc);
+    'each: for _i in 0..count {
+        numbers.push(0)?;
+    }
+    Ok(numbers)
 }
 
 impl<'a> Search<'a> {
@@ -146,7 +176,7 @@ impl<'a> Search<'a> {
         alloc: Global,
         f: &mut F,
         world: World,
-    ) -> Result<Numbers, AllocError>
+    ) -> Result<Sizes, AllocError>
         requires search { IsSearch self.now }
         requires world { MeetsQuery (sig_of self.now) (query_of self.now) world }
         requires light { IsLight (sig_of self.now) (F.limit f.old) (query_of self.now) }
@@ -162,20 +192,23 @@ impl<'a> Search<'a> {
                     sizes.push(n)?;
                     last = own;
                 }
-                NextSize::Over(excess) => return Ok(Numbers::Over(excess)),
+                NextSize::Over(excess) => return Ok(Sizes::Over(excess)),
             }
         }
-        Ok(Numbers::Found(sizes))
+        Ok(Sizes::Found(sizes, last))
     }
 
-    /// Looks for the values of all table entries, where the sorts have these sizes.
+    /// Looks for the values of all table entries, where the sorts have these sizes. The world meets
+    /// the query.
     fn least_values<F: Finder>(
         &self,
         alloc: Global,
         f: &mut F,
         sizes: &[u32],
+        world: World,
     ) -> Result<Numbers, AllocError>
         requires search { IsSearch self.now }
+        requires world { MeetsQuery (sig_of self.now) (query_of self.now) world }
         requires sorts { length sizes.now ≡ sorts_of self.now }
         requires settled { AreSettled self.now (F.limit f.old) sizes.now [] }
         ensures limit { F.limit f.new ≡ F.limit f.old }
@@ -187,7 +220,36 @@ impl<'a> Search<'a> {
             sizes,
             cells: cells.as_slice(),
         };
-        entries.each_value(alloc, f)
+        entries.all_values(alloc, f, world)
+    }
+
+    /// Looks for the least world, where the sorts have these sizes. The world meets the query.
+    fn least_with<F: Finder>(
+        &self,
+        alloc: Global,
+        f: &mut F,
+        sizes: &[u32],
+        world: World,
+    ) -> Result<Least, AllocError>
+        requires search { IsSearch self.now }
+        requires sorts { length sizes.now ≡ sorts_of self.now }
+        requires settled { AreSettled self.now (F.limit f.old) sizes.now [] }
+        requires world { MeetsQuery (sig_of self.now) (query_of self.now) world }
+        ensures limit { F.limit f.new ≡ F.limit f.old }
+        ensures found { IfOk result (IsSearchAnswer self.now (F.limit f.old)) }
+    {
+        let values = match self.least_values(alloc, f, sizes, world)? {
+            Numbers::Found(values) => values,
+            Numbers::Over(excess) => return Ok(Least::Over(excess)),
+        };
+        let least = world_from(
+            alloc,
+            &self.sys.sig,
+            self.query.copies,
+            sizes,
+            values.as_slice(),
+        )?;
+        Ok(Least::Model(least))
     }
 
     /// Looks for the least world, where this one meets the query.
@@ -203,26 +265,83 @@ impl<'a> Search<'a> {
         ensures limit { F.limit f.new ≡ F.limit f.old }
         ensures found { IfOk result (IsSearchAnswer self.now (F.limit f.old)) }
     {
-        let sizes = match self.least_sizes(alloc, f, world)? {
-            Numbers::Found(sizes) => sizes,
-            Numbers::Over(excess) => return Ok(Least::Over(excess)),
-        };
-        let values = match self.least_values(alloc, f, sizes.as_slice())? {
-            Numbers::Found(values) => values,
-            Numbers::Over(excess) => return Ok(Least::Over(excess)),
-        };
-        let least = world_from(
-            alloc,
-            &self.sys.sig,
-            self.query.copies,
-            sizes.as_slice(),
-            values.as_slice(),
-        )?;
-        Ok(Least::Model(least))
+        let found = self.least_sizes(alloc, f, world)?;
+        match found {
+            Sizes::Found(sizes, last) => self.least_with(alloc, f, sizes.as_slice(), last),
+            Sizes::Over(excess) => Ok(Least::Over(excess)),
+        }
     }
 }
 
 impl<'a> Entries<'a> {
+    /// Asks whether no trial of values is above the limit. One that settles all entries is as heavy
+    /// as each that does, and no other is heavier.
+    pub fn are_light<F: Finder>(&self, alloc: Global, f: &mut F) -> Result<bool, AllocError>
+        requires entries { AreEntries self.now }
+        requires settled { AreValuesSettled self.now (F.limit f.old) [] }
+        ensures limit { F.limit f.new ≡ F.limit f.old }
+        ensures light { IfOk result (λ b. IsTrue b → AreAllLight self.now (F.limit f.old)) }
+    {
+        let Search { sys, order, query } = self.search;
+        let _sorts = sys.sig.sorts;
+        let zeros = zeros(alloc, self.cells.len())?;
+        let p = value_trial(
+            alloc,
+            &sys.sig,
+            query,
+            self.sizes,
+            self.cells,
+            zeros.as_slice(),
+        )?;
+        match ask(alloc, f, sys, order, p)? {
+            Answer::Met(_) => Ok(true),
+            Answer::Nothing => Ok(true),
+            Answer::Over(_) => Ok(false),
+        }
+    }
+
+    /// Looks for the least value below `most` that the next entry, after entries with these values,
+    /// has in some world, where all trials are light.
+    pub fn lesser<F: Finder>(
+        &self,
+        alloc: Global,
+        f: &mut F,
+        values: &[u32],
+        most: u32,
+    ) -> Result<Lesser, AllocError>
+        requires entries { AreEntries self.now }
+        requires more { length values.now < length self.now.cells.now }
+        requires settled { AreValuesSettled self.now (F.limit f.old) values.now }
+        requires light { AreAllLight self.now (F.limit f.old) }
+        requires in_range { most < range_next self.now values.now }
+        ensures limit { F.limit f.new ≡ F.limit f.old }
+        ensures lesser { IfOk result (IsLesser self.now values.now most) }
+    {
+        'each: for v in 0..most {
+            match self.ask_value(alloc, f, values, v)? {
+                Answer::Met(world) => return Ok(Lesser::Met(v, world)),
+                Answer::Nothing => {}
+                Answer::Over(_) => unreachable!(),
+            }
+        }
+        Ok(Lesser::Nothing)
+    }
+
+    /// The values of the next entry, after entries with these values, are below this.
+    pub fn range(&self, values: &[u32]) -> u32
+        requires entries { AreEntries self.now }
+        requires more { length values.now < length self.now.cells.now }
+        ensures { result ≡ range_next self.now values.now }
+    {
+        let number = self.cells[values.len()].symbol as usize;
+        let symbol = self.search.sys.sig.symbols.at(number);
+        if symbol.relation {
+            2
+        } else {
+            self.sizes[symbol.result as usize]
+        }
+    }
+
     /// Asks for a world in which the next entry, after entries with these values, has the value v.
     fn ask_value<F: Finder>(
         &self,
@@ -323,7 +442,7 @@ impl<'a> Entries<'a> {
     }
 
     /// Looks for the values of all entries, one after the other, each as small as it can be.
-    fn each_value<F: Finder>(&self, alloc: Global, f: &mut F) -> Result<Numbers, AllocError>
+    pub fn each_value<F: Finder>(&self, alloc: Global, f: &mut F) -> Result<Numbers, AllocError>
         requires entries { AreEntries self.now }
         requires settled { AreValuesSettled self.now (F.limit f.old) [] }
         ensures limit { F.limit f.new ≡ F.limit f.old }
@@ -348,6 +467,10 @@ impl<'a> Entries<'a> {
 /// Where some world meets the query, it asks which size each sort can have, from 1 on, and then
 /// which value each table entry can have, from 0 on, and settles each before it asks for the next
 /// one. So the answer is the same whatever worlds the finder gives.
+///
+/// Before the values it asks one trial that settles all entries. Unless that is above the limit, no
+/// trial of values is, and a value that the world found last has needs no question: only lesser ones
+/// are asked for.
 ///
 /// It asks for what [`Finder::find`] asks for. Where a query of the search is above the finder's
 /// limit, it gives that query and its weight. Where the sizes that are tried sum up to 2^32 or
