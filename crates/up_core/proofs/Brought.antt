@@ -1,4 +1,5 @@
--- The numbers after an event that brings a world or changes a clause are those of the machine after it.
+-- The numbers after an event that brings a world or changes a clause are those of the machine after
+-- it.
 use Rattle.std.proofs.Common.{◌≡◌, ℕ, zero, suc, ◌+◌, ◌-◌, Bool, true, false, List, [], ◌∷◌, ◌++◌, length, Option, None, Some, is_some, slice_get, refl, sym, ap, subst, ◌∙◌, Any, inl, inr}
 use Rattle.std.specs.Option.{option_and_then, option_to_list}
 use Rattle.std.specs.Prelude.{option_map}

@@ -1,10 +1,9 @@
 -- What is chosen from the numbers is what is due in the machine that they mirror.
-use Rattle.std.proofs.Common.{◌≡◌, ℕ, zero, suc, ◌+◌, ◌<◌, ◌≤◌, ◌↔◌, Bool, true, false, not, ◌&&◌, ◌⊎◌, inl, inr, List, [], ◌∷◌, length, filter, nat_eq, nat_le, nat_lt, get_or, below_more, IsTrue, Option, None, Some, is_some, is_none, slice_get, refl, sym, ap, subst, ◌∙◌, arith, true≢false, All, Any, eqb-true, eq-eqb}
+use Rattle.std.proofs.Common.{◌≡◌, ℕ, ◌+◌, ◌<◌, ◌≤◌, ◌↔◌, Bool, true, false, not, ◌&&◌, ◌⊎◌, inl, inr, List, [], ◌∷◌, length, nat_eq, nat_le, nat_lt, get_or, below_more, IsTrue, Option, None, Some, is_some, is_none, slice_get, refl, sym, ap, subst, ◌∙◌, arith, true≢false, Any, eqb-true, eq-eqb}
 use Rattle.std.proofs.lemmas.Bool.{cases_lt, leb-true as le-from, le-leb as le-to, ltb-true, ltb-false}
 use Rattle.std.proofs.lemmas.Option.{get_or_from_slice_get, slice_get-get_or}
 use Rattle.std.specs.List.{list_any, count_by}
 use Rattle.fo_core.specs.declared.system.System.{System}
-use Rattle.up_machine.specs.declared.end.End.{End}
 use Rattle.up_machine.specs.declared.event.Event.{Event}
 use Rattle.up_machine.specs.declared.job.Job.{Job}
 use Rattle.up_machine.specs.declared.job.Job.TheVariants as J
@@ -13,18 +12,18 @@ use Rattle.up_machine.specs.declared.job.Task.{Task}
 use Rattle.up_machine.specs.declared.job.Task.TheVariants as T
 use Rattle.up_machine.specs.declared.limits.Limits.{Limits}
 use Rattle.up_machine.specs.declared.limits.TheConstants.{MOST_SEEDS}
-use Rattle.up_machine.specs.Due.{IsFirst, HasNone, IsClosedLevel, IsRooted, IsFirstRooted, IsTrace, IsOut, TraceIsOut, IsNextWork, IsLookDue, IsToPush, IsQuiet, IsValid, job_of, by_end, by_closed_level, by_root, by_steps, by_obligation, by_frontier, by_clause, by_quiet}
+use Rattle.up_machine.specs.Due.{IsFirst, HasNone, IsRooted, IsFirstRooted, IsTrace, IsOut, IsLookDue, IsToPush, IsQuiet, IsValid, job_of, by_end, by_closed_level, by_root, by_steps, by_obligation, by_frontier, by_clause, by_quiet}
 use Rattle.up_machine.specs.Machine.{Clause, Status, Ready, Out, Waiting, Done, Rooted, Obligation, Held, Machine, done_seeds, unfinished_seeds, is_done as was_done, is_done_seed as was_done_seed, is_unfinished_seed as was_open_seed}
-use Rattle.up_machine.proofs.Lists.{none_is_some, false_is_true, both_true, first_true, second_true, any-of_place, each-of_all, all-of_each, get-lt as get-below, two_places}
+use Rattle.up_machine.proofs.Lists.{false_is_true, both_true, first_true, second_true, any-of_place, each-of_all, all-of_each, get-lt as get-below, two_places}
 use Rattle.up_core.specs.declared.state.ClauseEntry.{ClauseEntry}
 use Rattle.up_core.specs.declared.state.JobEntry.{JobEntry}
 use Rattle.up_core.specs.declared.state.ObligationEntry.{ObligationEntry}
 use Rattle.up_core.specs.declared.state.Progress.{Progress}
 use Rattle.up_core.specs.declared.state.Progress.TheVariants as P
 use Rattle.up_core.specs.declared.state.State.{State}
-use Rattle.up_core.specs.Choice.{IsFirstPlace, IsEmptyLevel, IsLeastEmpty, IsClosedAt, IsBest, IsBestPlace, IsChoice, has_job, has_level, is_done, is_done_seed, is_look, is_open_seed, is_push_of, is_ready, is_rooted, is_to_push, is_trace, may_rise}
+use Rattle.up_core.specs.Choice.{IsFirstPlace, IsEmptyLevel, IsLeastEmpty, IsBest, IsBestPlace, IsChoice, has_job, has_level, is_done, is_done_seed, is_look, is_open_seed, is_push_of, is_ready, is_rooted, is_to_push, is_trace, may_rise}
 use Rattle.up_core.specs.Mirror.{Pairs, IsStatusOf, IsObligationOf, IsClauseOf, IsValidPush, IsJobOf, IsMirror}
-use Rattle.up_core.proofs.Pairing.{pairs-right, pairs-left, pairs-count, pairs-length, any-place, none-place, place-any}
+use Rattle.up_core.proofs.Pairing.{pairs-right, pairs-left, pairs-count, any-place, none-place, place-any}
 
 pub not-true : (b : Bool) → ¬ (b ≡ true) → b ≡ false
 not-true true n = absurd (n refl)

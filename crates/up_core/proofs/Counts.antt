@@ -6,7 +6,7 @@ use Rattle.up_machine.specs.declared.event.Event.TheVariants as E
 use Rattle.up_machine.specs.declared.event.Origin.TheVariants as O
 use Rattle.up_machine.specs.declared.limits.Limits.{Limits}
 use Rattle.up_machine.specs.Legal.{IsLegal, Legal}
-use Rattle.up_machine.specs.Machine.{Clause, Status, Ready, Done, Obligation, Given, Work, Push, Machine, start}
+use Rattle.up_machine.specs.Machine.{Clause, Ready, Done, Obligation, Given, Work, Push, Machine, start}
 use Rattle.up_machine.specs.Replay.{change_at, raised, retired, with_status, set_status, wake, finish, parent_of, clauses_after, obligations_after, frontier_after, job_of_event, is_productive, count_if, happens, replay}
 use Rattle.up_machine.proofs.Histories.{along}
 

@@ -1,7 +1,7 @@
 -- The machine in code after an event.
-use Rattle.std.proofs.Common.{◌≡◌, ℕ, zero, suc, ◌+◌, ◌-◌, ◌^◌, ◌<◌, ◌≤◌, Bool, true, false, cond, not, List, [], ◌∷◌, ◌++◌, length, filter, find, nat_eq, Option, None, Some, is_some, slice_get, refl, sym, ap, subst, ◌∙◌, arith, true≢false, inl, inr}
+use Rattle.std.proofs.Common.{◌≡◌, ℕ, suc, ◌-◌, ◌^◌, ◌<◌, ◌≤◌, Bool, true, false, cond, not, List, [], ◌∷◌, ◌++◌, length, find, nat_eq, Option, None, Some, refl, sym, subst, ◌∙◌, arith, inl, inr}
 use Rattle.std.specs.Global.{Vec}
-use Rattle.std.specs.Vec.{vec_len, vec_capacity}
+use Rattle.std.specs.Vec.{vec_len}
 use Rattle.fo_core.specs.declared.order.Order.{Order}
 use Rattle.fo_core.specs.declared.system.System.{System}
 use Rattle.up_claims.specs.declared.report.Numbers.{Numbers}
@@ -14,19 +14,18 @@ use Rattle.up_machine.specs.declared.job.Short.TheVariants as S
 use Rattle.up_machine.specs.declared.job.Task.{Task}
 use Rattle.up_machine.specs.declared.job.Task.TheVariants as T
 use Rattle.up_machine.specs.declared.limits.Limits.{Limits}
-use Rattle.up_machine.specs.declared.limits.TheConstants.{MOST_STEPS, MOST_FRAMES}
-use Rattle.up_machine.specs.Due.{IsDue, by_end, by_steps}
+use Rattle.up_machine.specs.Due.{IsDue, by_end}
 use Rattle.up_machine.specs.Legal.{IsLegal, IsAllowed, Legal}
 use Rattle.up_machine.specs.Machine.{Given, Held, Machine, start, held_by}
 use Rattle.up_machine.specs.Ranges.{AreInRange}
-use Rattle.up_machine.specs.Replay.{happens, replay, released, is_productive}
+use Rattle.up_machine.specs.Replay.{happens, replay, released}
 use Rattle.up_machine.proofs.Histories.{legal-push, replay-push}
 use Rattle.up_machine.proofs.Holding.{held-at}
 use Rattle.up_machine.proofs.Lists.{none_is_some, get-lt, mapped_some}
 use Rattle.up_core.specs.declared.state.State.{State}
 use Rattle.up_core.specs.Choice.{IsSmall}
-use Rattle.up_core.specs.Holding.{IsCore, IsRoomFor}
-use Rattle.up_core.specs.Known.{IsKnown, IsOpenFor, IsInPlace, IsNow}
+use Rattle.up_core.specs.Holding.{IsCore}
+use Rattle.up_core.specs.Known.{IsKnown, IsInPlace, IsNow}
 use Rattle.up_core.specs.Mirror.{Pairs, IsClauseOf, IsObligationOf, IsJobOf, IsMirror}
 use Rattle.up_core.specs.Room.{HasRoom, HasSpare, HaveSameLists, IsRoomy}
 use Rattle.up_core.specs.View.{CoreView, now, numbers_of}

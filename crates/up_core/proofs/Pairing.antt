@@ -1,9 +1,9 @@
 -- Lists that correspond, element by element.
-use Rattle.std.proofs.Common.{◌≡◌, ℕ, zero, suc, ◌+◌, ◌<◌, Bool, true, false, cond, ◌||◌, List, [], ◌∷◌, ◌++◌, length, filter, Option, None, Some, slice_get, set, refl, sym, ap, subst, ◌∙◌, arith, true≢false, Any}
+use Rattle.std.proofs.Common.{◌≡◌, ℕ, zero, suc, ◌<◌, Bool, true, false, cond, ◌||◌, List, [], ◌∷◌, ◌++◌, length, filter, Some, slice_get, set, refl, sym, ap, subst, ◌∙◌, arith, true≢false, Any}
 use Rattle.std.specs.List.{list_any, count_by, find}
 use Rattle.std.proofs.lemmas.List.Sums.{length-filter}
 use Rattle.up_machine.specs.Replay.{change_at}
-use Rattle.up_machine.proofs.Lists.{some_injective, none_is_some, false_is_true, any-of_place}
+use Rattle.up_machine.proofs.Lists.{some_injective, none_is_some, false_is_true}
 use Rattle.up_core.specs.Mirror.{Pairs}
 
 module _ {X Y : Type 0} where

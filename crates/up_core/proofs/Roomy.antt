@@ -1,5 +1,5 @@
 -- Room for variables, kept by each event that brings no more than there is room for.
-use Rattle.std.proofs.Common.{◌≡◌, ℕ, zero, suc, ◌≤◌, Bool, true, false, not, List, [], ◌∷◌, ◌++◌, length, filter, sum, nat_eq, Option, None, Some, slice_get, refl, sym, ap, subst, ◌∙◌, inl, inr, arith}
+use Rattle.std.proofs.Common.{◌≡◌, ℕ, ◌≤◌, Bool, true, not, List, [], ◌∷◌, ◌++◌, length, filter, sum, nat_eq, Option, None, Some, refl, subst, inl, inr, arith}
 use Rattle.fo_core.specs.declared.world.World.{World}
 use Rattle.up_diagram.specs.declared.cube.Cube.{Cube}
 use Rattle.up_machine.specs.declared.end.End.TheVariants as N
@@ -9,7 +9,7 @@ use Rattle.up_machine.specs.declared.event.Origin.TheVariants as O
 use Rattle.up_machine.specs.Machine.{Clause, Status, Ready, Out, Waiting, Done, Rooted, Obligation, Given, Work, Look, Push, Trace, Held, Machine, start}
 use Rattle.up_machine.specs.Replay.{change_at, raised, retired, with_status, set_status, wake, finish, parent_of, clauses_after, obligations_after, jobs_after, released, worker_of, job_of_event, happens}
 use Rattle.up_machine.specs.Sound.{Each}
-use Rattle.up_machine.proofs.Lists.{Each-nil, get-push, IsPushed, get-changed, IsChanged, get-filter, some_injective}
+use Rattle.up_machine.proofs.Lists.{Each-nil, get-push, IsPushed, get-changed, IsChanged, get-filter}
 use Rattle.up_core.specs.Mirror.{cube_of}
 use Rattle.up_core.specs.Room.{IsRoomyFor, IsRoomy, state_of}
 

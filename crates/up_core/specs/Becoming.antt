@@ -21,8 +21,8 @@ pub record IsState (t : State) (clauses : List ClauseEntry) (obligations : List 
   pub productive_is : t.productive ≡ productive
   pub ended_is : t.ended ≡ ended
 
--- The numbers t after s, where an origin is found before the obligation that the worker works on, by
--- the event that is to stand at this place: it is rooted, or it waits for the step before it.
+-- The numbers t after s, where an origin is found before the obligation that the worker works on,
+-- by the event that is to stand at this place: it is rooted, or it waits for the step before it.
 abbrev pub IsPreceded : Origin → ℕ → ℕ → State → State → Type 0
 IsPreceded (O.Initial u) w found s t =
     IsState t s.clauses.items

@@ -1,5 +1,5 @@
 -- What is due, as it is chosen from the numbers that the code keeps.
-use Rattle.std.specs.Prelude.{◌≡◌, ℕ, suc, ◌+◌, ◌<◌, ◌≤◌, ◌^◌, Bool, true, false, not, ◌&&◌, nat_eq, nat_le, List, length, Option, None, Some, is_none, slice_get, MatchOption, ◌⊎◌}
+use Rattle.std.specs.Prelude.{◌≡◌, ℕ, ◌<◌, ◌≤◌, ◌^◌, Bool, true, false, not, ◌&&◌, nat_eq, nat_le, List, length, Option, Some, is_none, slice_get, MatchOption, ◌⊎◌}
 use Rattle.std.specs.List.{list_any}
 use Rattle.fo_core.specs.declared.system.System.{System}
 use Rattle.up_machine.specs.declared.job.Job.{Job}

@@ -14,8 +14,8 @@ use Rattle.up_core.specs.declared.state.State.{State}
 use Rattle.up_core.specs.Mirror.{IsMirror}
 use Rattle.up_core.specs.Room.{HasRoom, HasSpare, IsRoomy}
 
--- There is room for this many events and what they bring, and until the end at least for one of each
--- job that is out.
+-- There is room for this many events and what they bring, and until the end at least for one of
+-- each job that is out.
 pub record IsRoomFor (history : Vec Event) (s : State) (spare : ℕ) : Type 0 where
   pub events : HasRoom spare history
   pub entries : HasSpare spare s

@@ -1,6 +1,6 @@
--- What a caller of an event call knows, what the call tests, and why it may refuse. Legality is what
--- is known and what is tested: where what was found is to lie in a frame, that frame is looked at as
--- it stands now, and only the call can tell.
+-- What a caller of an event call knows, what the call tests, and why it may refuse. Legality is
+-- what is known and what is tested: where what was found is to lie in a frame, that frame is looked
+-- at as it stands now, and only the call can tell.
 use Rattle.std.specs.Prelude.{◌≡◌, ℕ, ◌-◌, ◌<◌, ◌≤◌, true, None, Some, is_some, ⊤}
 use Rattle.fo_core.specs.declared.world.World.{World}
 use Rattle.up_diagram.specs.declared.cube.Cube.{Cube}
@@ -14,7 +14,7 @@ use Rattle.up_machine.specs.declared.not_now.NotNow.TheVariants as W
 use Rattle.up_machine.specs.Finding.{HoldsWork, HoldsLook, HoldsPush}
 use Rattle.up_machine.specs.Legal.{IsLeastSeed, IsLeastRoot, IsLeastStep, IsFoundStep, IsFoundCube, IsAllowed}
 use Rattle.up_machine.specs.Machine.{IsIn, IsFirstRefuter}
-use Rattle.up_machine.specs.Replay.{is_productive, worker_of}
+use Rattle.up_machine.specs.Replay.{is_productive}
 use Rattle.up_core.specs.View.{CoreView, now}
 
 -- the ends that a job tells
@@ -124,8 +124,8 @@ module _ (c : CoreView) where
   FoundIsRefutedBy (E.Fail w p) k = RefutesFail w p k
   FoundIsRefutedBy _ k = ⊥
 
-  -- why the event can't be made now: after an end; without steps left; or, where neither is so, since
-  -- a clause, the first such one, refutes what is to be in place
+  -- why the event can't be made now: after an end; without steps left; or, where neither is so,
+  -- since a clause, the first such one, refutes what is to be in place
   abbrev pub IsNotNow : Event → NotNow → Type 0
   IsNotNow e W.Closed = is_some (now c).ending ≡ true
   IsNotNow e W.Spent =

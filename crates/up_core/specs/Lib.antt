@@ -11,4 +11,5 @@ pub mod Refuting
 pub mod Room
 pub mod Steps
 pub mod Taking
+pub mod Telling
 pub mod View

@@ -12,7 +12,7 @@ use Rattle.up_machine.specs.Sound.{Each}
 use Rattle.up_core.specs.declared.state.ClauseEntry.{ClauseEntry}
 use Rattle.up_core.specs.Mirror.{cube_of}
 
--- no state that is reached within so many steps meets one of the cubes
+-- no state that is reached within i steps meets one of the cubes
 abbrev pub AreUnmet : System → ℕ → List Cube → Type 0
 AreUnmet sys i cubes =
     (s : World) → Reach sys i s → Each cubes (λ k (cube : Cube). ¬ Meets sys.sig s 0 cube)

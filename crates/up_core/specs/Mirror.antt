@@ -1,5 +1,5 @@
 -- How the numbers that the code keeps are those of the machine.
-use Rattle.std.specs.Prelude.{◌≡◌, ℕ, suc, Bool, List, [], ◌∷◌, Option, None, Some, is_some, slice_get, ⊤}
+use Rattle.std.specs.Prelude.{◌≡◌, ℕ, suc, List, [], ◌∷◌, Option, None, Some, is_some, slice_get, ⊤}
 use Rattle.std.specs.List.{Any}
 use Rattle.std.specs.Option.{option_and_then}
 use Rattle.fo_core.specs.declared.system.System.{System}

@@ -10,11 +10,11 @@ use Rattle.up_machine.specs.Machine.{Clause, Obligation, Given, Work, Look, Push
 use Rattle.up_machine.specs.Sound.{Each}
 use Rattle.up_core.specs.declared.state.State.{State}
 
--- so many further elements fit without memory
+-- n further elements fit without memory
 abbrev pub HasRoom : {X : Type 0} → ℕ → Vec X → Type 0
 HasRoom n xs = vec_len xs + n ≤ vec_capacity xs
 
--- so many further clauses, obligations and jobs fit
+-- n further clauses, obligations and jobs fit
 pub record HasSpare (n : ℕ) (s : State) : Type 0 where
   pub clauses : HasRoom n s.clauses
   pub obligations : HasRoom n s.obligations

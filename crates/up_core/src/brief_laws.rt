@@ -10,8 +10,8 @@ ghost use Rattle.up_machine.specs.Machine.{Given, held_by};
 ghost use Rattle.up_machine.specs.Replay.{given_for, replay};
 ghost use Rattle.up_core.specs.Taking.{HasOnlyTakesSince};
 
-/// Where since a worker's take only others took jobs, the worker holds what it would be given for its
-/// job now: so its brief now ([`crate::Core::brief`]) is the brief of what it holds.
+/// Where since a worker's take only others took jobs, the worker holds what it would be given for
+/// its job now: so its brief now ([`crate::Core::brief`]) is the brief of what it holds.
 pub fn takes_keep_briefs()
     ensures { (sys : System) (limits : Limits) (history : List Event) (w : ℕ) (held : Given) →
         Legal sys limits history → HasOnlyTakesSince history w →

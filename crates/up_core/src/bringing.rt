@@ -47,7 +47,7 @@ fn first_progress(level: u32, found: usize) -> Progress
     }
 }
 
-/// Puts an entry behind the others, if one is given.
+/// Appends an entry, if one is given.
 fn push_if(obligations: &mut Vec<ObligationEntry>, entry: Option<ObligationEntry>)
     requires { HasRoom 1 obligations.old }
     ensures items { obligations.new.items ≡ obligations.old.items ++ option_to_list entry }

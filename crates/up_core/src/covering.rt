@@ -103,8 +103,8 @@ fn first_pair(
 }
 
 impl Core {
-    /// The first clause, with the first cover, that may be retired; none after the end. The one error
-    /// is out of memory.
+    /// The first clause, with the first cover, that may be retired; none after the end. The one
+    /// error is out of memory.
     pub fn cover(&self, alloc: Global) -> Result<Option<Cover>, AllocError>
         ensures { IfOk result (λ found. MatchOption found
             ((gone by : ℕ) → ¬ MayRetire (now self.now) gone by)

@@ -23,9 +23,9 @@ fn short_end(short: Short) -> End
 impl Core {
     /// The worker, who has no job, takes the one that is due.
     ///
-    /// It asks for room for two events besides one for each job that is out, so that each worker can
-    /// report, and one may be retired; and for a work for as many variables as the obligation's state
-    /// has elements. [`Core::reserve`] gives both.
+    /// It asks for room for two events besides one for each job that is out, so that each worker
+    /// can report, and one may be retired; and for a work for as many variables as the obligation's
+    /// state has elements. [`Core::reserve`] gives both.
     pub fn take(&mut self, worker: u32, job: Job)
         requires room { length (now self.old).jobs + 2 ≤ self.old.spare }
         requires variables { HasVariablesForJob self.old job }
@@ -109,7 +109,8 @@ impl Core {
 
     /// The worker puts its job back.
     ///
-    /// It is refused after the end, and then nothing changes but that what was handed in is dropped.
+    /// It is refused after the end, and then nothing changes but that what was handed in is
+    /// dropped.
     pub fn give_back(&mut self, worker: u32, why: Why) -> Result<(), NotNow>
         requires { IsKnown self.old (Return worker why) }
         ensures made { OnOk result (self.new ≡ with_event self.old (Return worker why)) }

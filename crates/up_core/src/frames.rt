@@ -8,6 +8,7 @@ ghost use Rattle.up_core.specs.Mirror.{cube_of};
 ghost use Rattle.up_core.specs.View.{now};
 
 use crate::kept::Core;
+use crate::refuting::cube_at;
 use crate::state::ClauseEntry;
 use fo_core::Seq;
 use std::alloc::{AllocError, Global};
@@ -23,9 +24,9 @@ pub(crate) fn copy_cube_at(
     ensures { IfOk result (λ cube. cube ≡
         option_and_then cube_of (slice_get history.now place)) }
 {
-    match history.get(place) {
-        Some(Event::Learn(_, cube)) => Ok(Some(cube.copy(alloc)?)),
-        _ => Ok(None),
+    match cube_at(history, place) {
+        Some(cube) => Ok(Some(cube.copy(alloc)?)),
+        None => Ok(None),
     }
 }
 
@@ -66,10 +67,11 @@ pub(crate) fn copy_cubes(
 }
 
 impl Core {
-    /// The cubes of the live clauses of at least this level, in the order in which they were learnt.
+    /// The cubes of the live clauses of at least this level, in the order in which they were
+    /// learnt.
     ///
     /// For a level of at least 1 they tell the frame of that number, so no state that is reached
-    /// within so many steps meets one of them. The one error is out of memory.
+    /// within that number of steps meets one of them. The one error is out of memory.
     pub fn frame(&self, alloc: Global, level: u32) -> Result<Seq<Cube>, AllocError>
         ensures cubes { IfOk result (λ cubes. cubes ≡ cubes_from (now self.now).clauses level) }
         ensures unmet { 1 ≤ level → IfOk result (λ cubes. AreUnmet self.now.sys level cubes) }

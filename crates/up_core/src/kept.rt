@@ -58,7 +58,7 @@ impl Model for Core {
         IsCore c.sys c.order c.limits c.history c.state c.spare c.picks c.variables c.widest };
 }
 
-/// So many events and one for each job, where a number of 32 bits can tell it.
+/// This many events and one for each job, where a number of 32 bits can tell it.
 fn room_for(events: u32, jobs: usize) -> Result<u32, AllocError>
     ensures { IfOk result (λ n. n ≡ events + jobs) }
 {
@@ -92,9 +92,9 @@ fn widen(
 
 impl Core {
     /// A machine before any event, with copies of the system and the order. It asks for limits in
-    /// their ranges ([`Limits::are_in_range`]), for a well-sorted system ([`System::is_well_sorted`])
-    /// and for an order that rises along the edges of its sort graph for inference. The one error is
-    /// out of memory.
+    /// their ranges ([`Limits::are_in_range`]), for a well-sorted system
+    /// ([`System::is_well_sorted`]) and for an order that rises along the edges of its sort graph
+    /// for inference. The one error is out of memory.
     pub fn new(
         alloc: Global,
         sys: &System,
@@ -198,10 +198,10 @@ impl Core {
         &self.limits
     }
 
-    /// What always holds: the system is well-sorted, and the order rises along the edges of its sort
-    /// graph for inference; the limits are in their ranges; each event of the history is legal in the
-    /// replay of those before it; and until the end there is room for an event of each job that is
-    /// out, so that a worker can always report.
+    /// What always holds: the system is well-sorted, and the order rises along the edges of its
+    /// sort graph for inference; the limits are in their ranges; each event of the history is legal
+    /// in the replay of those before it; and until the end there is room for an event of each job
+    /// that is out, so that a worker can always report.
     pub fn stays_sound(&self)
         ensures infer { CanInfer self.now.sys self.now.order }
         ensures in_range { AreInRange self.now.limits }

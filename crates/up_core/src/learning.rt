@@ -15,8 +15,8 @@ use fo_core::Sig;
 use up_diagram::Picks;
 use up_machine::Event;
 
-/// Takes away the failed pushes of clauses one level above this one whose steps begin in a state that
-/// it refutes.
+/// Takes away the failed pushes of clauses one level above this one whose steps begin in a state
+/// that it refutes.
 fn lapse_above(
     history: &[Event],
     sig: &Sig,

@@ -1,5 +1,5 @@
-//! The machine of property-directed reachability in code: it keeps the history of its events, which is
-//! legal at all times, and numbers that are the history's replay.
+//! The machine of property-directed reachability in code: it keeps the history of its events, which
+//! is legal at all times, and numbers that are the history's replay.
 #![tactic(auto)]
 
 mod brief_laws;
@@ -11,13 +11,17 @@ mod frames;
 mod kept;
 mod lapsing;
 mod learning;
+mod leaves;
+mod links;
 mod lists;
 mod refuting;
 mod state;
 mod steps;
 mod tasks;
 mod teaching;
+mod threads;
 mod trying;
+mod verdict;
 mod worlds;
 
 pub use brief_laws::takes_keep_briefs;

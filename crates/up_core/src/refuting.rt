@@ -34,8 +34,8 @@ fn meets_at(history: &[Event], place: usize, sig: &Sig, w: &World, picks: &mut P
     }
 }
 
-/// Whether a clause is live, has at least this level, and says that copy 0 of the world isn't in the
-/// frame of this level.
+/// Whether a clause is live, has at least this level, and says that copy 0 of the world isn't in
+/// the frame of this level.
 fn refutes(
     history: &[Event],
     entry: &ClauseEntry,
@@ -147,8 +147,8 @@ pub(crate) fn seed_refuter(
     first_refuter(history, clauses, sig, w, state.frontier, picks)
 }
 
-/// The first clause that refutes a step before the obligation that the worker works on, in the frame
-/// below it, where that is one of those told by clauses.
+/// The first clause that refutes a step before the obligation that the worker works on, in the
+/// frame below it, where that is one of those told by clauses.
 pub(crate) fn step_refuter(
     history: &[Event],
     state: &State,

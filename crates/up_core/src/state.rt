@@ -1,5 +1,5 @@
-//! What the code keeps of the machine's state: numbers alone. Worlds and cubes stand in the history,
-//! and these numbers say where.
+//! What the code keeps of the machine's state: numbers alone. Worlds and cubes stand in the
+//! history, and these numbers say where.
 
 ghost use Rattle.std.specs.Prelude.{ℕ, [], OnOk};
 ghost use Rattle.fo_core.specs.declared.system.System.{System};

@@ -1,5 +1,5 @@
-//! What is due, chosen from the numbers alone. The rules are tried in order, and the first that gives
-//! a task decides.
+//! What is due, chosen from the numbers alone. The rules are tried in order, and the first that
+//! gives a task decides.
 
 ghost use Rattle.std.specs.Prelude.{◌≡◌, ◌↔◌, ◌≤◌, ◌&&◌, nat_lt, not, true, List, Some, IsTrue, length};
 ghost use Rattle.std.specs.List.{count_by, list_any};

@@ -55,8 +55,8 @@ impl Core {
     /// The obligation that the worker works on is blocked, and the cube's clause is learnt.
     ///
     /// It is refused after the end, where the steps are spent, and where a clause refutes the
-    /// obligation's own state in the frame of its level. Then nothing changes but that what was handed
-    /// in is dropped.
+    /// obligation's own state in the frame of its level. Then nothing changes but that what was
+    /// handed in is dropped.
     pub fn learn(&mut self, worker: u32, cube: Cube) -> Result<(), NotNow>
         requires { IsKnown self.old (Learn worker cube) }
         ensures made { OnOk result (self.new ≡ with_event self.old (Learn worker cube)) }

@@ -11,8 +11,8 @@ use fo_core::World;
 use up_machine::{NotNow, Origin};
 
 impl Core {
-    /// Whether the violating state that the worker's look found could become an obligation now: what
-    /// [`Core::seed`] would answer.
+    /// Whether the violating state that the worker's look found could become an obligation now:
+    /// what [`Core::seed`] would answer.
     pub fn test_seed(&mut self, worker: u32, world: &World) -> Result<(), NotNow>
         requires { IsKnown self.old (Seed worker world.now) }
         ensures same { self.new ≡ self.old }

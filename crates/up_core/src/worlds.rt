@@ -33,9 +33,9 @@ fn elements_before(origin: &Origin) -> u32
 impl Core {
     /// The violating state that the worker's look found becomes an obligation.
     ///
-    /// It asks for fewer than 2^32 elements. It is refused after the end, where the steps are spent,
-    /// and where a clause refutes the state in the frontier's frame. Then nothing changes but that
-    /// what was handed in is dropped.
+    /// It asks for fewer than 2^32 elements. It is refused after the end, where the steps are
+    /// spent, and where a clause refutes the state in the frontier's frame. Then nothing changes
+    /// but that what was handed in is dropped.
     pub fn seed(&mut self, worker: u32, world: World) -> Result<(), NotNow>
         requires known { IsKnown self.old (Seed worker world) }
         requires few { sum world.sizes < 2 ^ 32 }
@@ -59,8 +59,8 @@ impl Core {
     /// The step out of its clause's frame that the worker found is kept.
     ///
     /// It is refused after the end, where the steps are spent, and where a clause refutes the state
-    /// that the step begins in, in the clause's frame. Then nothing changes but that what was handed
-    /// in is dropped.
+    /// that the step begins in, in the clause's frame. Then nothing changes but that what was
+    /// handed in is dropped.
     pub fn fail(&mut self, worker: u32, step: World) -> Result<(), NotNow>
         requires { IsKnown self.old (Fail worker step) }
         ensures made { OnOk result (self.new ≡ with_event self.old (Fail worker step)) }

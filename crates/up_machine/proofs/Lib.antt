@@ -2,6 +2,7 @@ pub mod BoundedHolds
 pub mod ChainHolds
 pub mod Changes
 pub mod Counting
+pub mod Crossing
 pub mod Dues
 pub mod Fails
 pub mod Fit

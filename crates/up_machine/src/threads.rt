@@ -1,6 +1,6 @@
 //! Threads may send one another values of this crate, and share them: this file isn't taken where
 //! they may not. An event is made of numbers, jobs, worlds, cubes and what stands here.
-use crate::{Brief, Cover, End, Job, Limits, NotNow, Origin, Short, Task, Why};
+use crate::{Brief, Cover, End, Event, Job, Limits, NotNow, Origin, Short, Task, Why};
 use fo_core::World;
 use up_diagram::Cube;
 
@@ -24,18 +24,16 @@ fn values_cross_threads(
 }
 
 #[expect(dead_code, reason = "nothing calls it: that it is taken shows the bounds")]
-fn lists_cross_threads(
-    brief: &Brief,
-    cube: &Cube,
-    end: &End,
-    origin: &Origin,
-    why: &Why,
-    world: &World,
-) {
+fn lists_cross_threads(brief: &Brief, cube: &Cube, origin: &Origin, why: &Why, world: &World) {
     crosses_threads(brief);
     crosses_threads(cube);
-    crosses_threads(end);
     crosses_threads(origin);
     crosses_threads(why);
     crosses_threads(world);
+}
+
+#[expect(dead_code, reason = "nothing calls it: that it is taken shows the bounds")]
+fn events_cross_threads(end: &End, event: &Event) {
+    crosses_threads(end);
+    crosses_threads(event);
 }

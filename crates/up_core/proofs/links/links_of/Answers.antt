@@ -1,0 +1,7 @@
+use Rattle.std.proofs.Common.{◌+◌, sym, subst}
+use Rattle.up_core.specs.Telling.{CanGoOn}
+use Rattle.up_core.proofs.links.links_of.Goals as goal
+
+pub links_from-requires-clause-more : goal.links_from-requires-clause-more
+links_from-requires-clause-more c =
+    subst (λ es. CanGoOn c.args.sig.now c.args.history.now es (c.args.state.now.frontier + 1)) (sym c.as_slice-obligations.ensures.value) c.requires.more
