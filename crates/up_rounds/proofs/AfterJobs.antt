@@ -140,7 +140,7 @@ abbrev TracesAreFirst : List Held → Type 0
 TracesAreFirst js = Each js (λ k h. HoldsTraceJob h → h.worker ≡ 0)
 
 module _ (sys : System) (limits : Limits) where
-  taken : (P : Held → Type 0) (m : Machine) (seat : ℕ) (t : Event) (a : Takes sys limits m seat t) → Each m.jobs (λ k. P) →
+  pub taken : (P : Held → Type 0) (m : Machine) (seat : ℕ) (t : Event) (a : Takes sys limits m seat t) → Each m.jobs (λ k. P) →
       ((x : Given) → given_for m a.job ≡ Some x → P (record { worker = seat; given = x })) → Each (happens m t).jobs (λ k. P)
   taken P m seat t a h p = subst (λ y. Each (happens m y).jobs (λ k. P)) (sym a.is) (pushed P seat a.job (given_for m a.job) m.jobs h p)
 

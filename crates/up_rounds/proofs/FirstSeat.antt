@@ -9,12 +9,13 @@ use Rattle.up_claims.specs.Frames.{Avoids, IsInFrame}
 use Rattle.up_machine.specs.declared.limits.Limits.{Limits}
 use Rattle.up_machine.specs.declared.job.Job.{Job}
 use Rattle.up_machine.specs.declared.job.Job.TheVariants as J
+use Rattle.up_machine.specs.declared.job.Task.TheVariants as T
 use Rattle.up_machine.specs.declared.event.Why.TheVariants as Y
 use Rattle.up_machine.specs.declared.event.Event.{Event}
 use Rattle.up_machine.specs.declared.event.Event.TheVariants as E
 use Rattle.up_machine.specs.Machine.{Given, Work, Look, Push, Held, Machine, IsFirstRefuter, cubes_from, frame, held_by}
 use Rattle.up_machine.specs.Replay.{worker_of, given_work, given_push, given_for, jobs_after, happens, run, replay}
-use Rattle.up_machine.specs.Due.{job_of}
+use Rattle.up_machine.specs.Due.{IsDue, job_of}
 use Rattle.up_machine.specs.Legal.{MayRefute, of_seed, of_step, of_fail, Legal}
 use Rattle.up_machine.specs.Rounds.{IsReport}
 use Rattle.up_machine.specs.Sound.{Each, IsFit}
@@ -38,7 +39,7 @@ none_held (h ∷ js) w e = step (nat_eq h.worker w) refl (none_held js w) e
     step true is rest e = none_is_some h.given (sym e)
     step false is rest e = Each-cons h js (λ k h. ¬ (h.worker ≡ w)) (λ same. true≢false (sym (eq-eqb h.worker w same) ∙ is)) (rest e)
 
-given_first : (job : Job) (g : Option Given) (js : List Held) (x : Given) → held_by js 0 ≡ None → held_by (jobs_after (E.Take 0 job) g js) 0 ≡ Some x → g ≡ Some x
+pub given_first : (job : Job) (g : Option Given) (js : List Held) (x : Given) → held_by js 0 ≡ None → held_by (jobs_after (E.Take 0 job) g js) 0 ≡ Some x → g ≡ Some x
 given_first job None js x free e = none_is_some x (sym free ∙ e)
 given_first job (Some y) js x free e =
     let h = held-at (js ++ record { worker = 0; given = y } ∷ []) 0 x e in
@@ -63,21 +64,30 @@ module _ (sys : System) (limits : Limits) where
         frontier = r.frontier ∙ subst (λ x. (happens m x).frontier ≡ m.frontier) (sym h.0.is) refl;
       }
 
-  held_before : (m : Machine) (seat : ℕ) (ts : List Event) → AreTakes sys limits m seat ts → 0 < seat → held_by (run m ts).jobs 0 ≡ held_by m.jobs 0
+  pub held_before : (m : Machine) (seat : ℕ) (ts : List Event) → AreTakes sys limits m seat ts → 0 < seat → held_by (run m ts).jobs 0 ≡ held_by m.jobs 0
   held_before m seat [] h lt = refl
   held_before m seat (t ∷ ts) h lt =
       let worker : worker_of t ≡ seat = ap worker_of h.0.is in
       held_before (happens m t) (suc seat) ts h.1 (omega arith)
       ∙ run-held m (t ∷ []) 0 (Each-cons t [] (λ k e. ¬ (worker_of e ≡ 0)) (λ e. omega (arith, e, worker, lt)) (Each-nil (λ k e. ¬ (worker_of e ≡ 0))))
 
-  -- what seat 0 holds is what it was given at the begin of the round
-  was_given : (m : Machine) (ts : List Event) (x : Given) → IsAtRest limits m → AreTakes sys limits m 0 ts → held_by (run m ts).jobs 0 ≡ Some x → given_for m (job_of x) ≡ Some x
+  -- the job was due at the begin of the round, and this is what was given for it then
+  pub record IsGivenFirst (m : Machine) (x : Given) : Type 0 where
+    pub due : IsDue sys limits m (T.Job (job_of x))
+    pub given : given_for m (job_of x) ≡ Some x
+
+  -- so it is with what seat 0 holds after the takes
+  pub was_given : (m : Machine) (ts : List Event) (x : Given) → IsAtRest limits m → AreTakes sys limits m 0 ts → held_by (run m ts).jobs 0 ≡ Some x → IsGivenFirst m x
   was_given m [] x r h e = none_is_some x (sym r.free ∙ e)
   was_given m (t ∷ ts) x r h e =
       let here : held_by (happens m t).jobs 0 ≡ Some x = sym (held_before (happens m t) 1 ts h.1 (omega arith)) ∙ e in
       let own : held_by (happens m (E.Take 0 h.0.job)).jobs 0 ≡ Some x = subst (λ y. held_by (happens m y).jobs 0 ≡ Some x) h.0.is here in
       let given = given_first h.0.job (given_for m h.0.job) m.jobs x r.free own in
-      subst (λ j. given_for m j ≡ Some x) (sym (job_given m h.0.job x given)) given
+      let job : h.0.job ≡ job_of x = sym (job_given m h.0.job x given) in
+      record {
+        due = subst (λ j. IsDue sys limits m (T.Job j)) job h.0.due;
+        given = subst (λ j. given_for m j ≡ Some x) job given;
+      }
 
 -- 2. So it was given frames as they stand.
 
@@ -120,7 +130,7 @@ module _ (sys : System) (limits : Limits) (good : IsSystem sys) (m : Machine) (t
   never : (p : World) (c : ℕ) → ¬ MayRefute sys (run m ts) 0 p c
   never p c (of_seed may) =
       let x = may.look in
-      let given = was_given sys limits m ts (Look x.level x.frame x.avoid x.done) rest taken x.held in
+      let given = (was_given sys limits m ts (Look x.level x.frame x.avoid x.done) rest taken x.held).given in
       let before = as_before sys limits m 0 ts taken in
       let cubes : cubes_from m.clauses m.frontier ≡ x.frame = look_frame m x.level x.frame x.avoid x.done given in
       let clauses : x.frame ≡ cubes_from (run m ts).clauses m.frontier = sym cubes ∙ ap (λ cs. cubes_from cs m.frontier) (sym before.clauses) in
@@ -129,14 +139,14 @@ module _ (sys : System) (limits : Limits) (good : IsSystem sys) (m : Machine) (t
       not_refuted sys (run m ts) p c (run m ts).frontier (subst (λ cs. Avoids sys.sig p 0 cs) same inside) may.refuter
   never p c (of_step may) =
       let x = may.work in
-      let given = was_given sys limits m ts (Work x.obligation x.level x.below x.world) rest taken x.held in
+      let given = (was_given sys limits m ts (Work x.obligation x.level x.below x.world) rest taken x.held).given in
       let before = as_before sys limits m 0 ts taken in
       let same : x.below ≡ frame (run m ts).clauses (x.level - 1) = work_frame m x.obligation x.level x.below x.world given ∙ ap (λ cs. frame cs (x.level - 1)) (sym before.clauses) in
       let inside = (found_step sys good (run m ts) fit 0 x p may.found.least).in_frame in
       not_in_frame sys (run m ts) p c (x.level - 1) (subst (λ f. IsInFrame sys f p 0) same inside) may.refuter
   never p c (of_fail may) =
       let x = may.push in
-      let given = was_given sys limits m ts (Push x.clause x.level x.frame x.cube) rest taken x.held in
+      let given = (was_given sys limits m ts (Push x.clause x.level x.frame x.cube) rest taken x.held).given in
       let before = as_before sys limits m 0 ts taken in
       let same : x.frame ≡ cubes_from (run m ts).clauses x.level = push_frame m x.clause x.level x.frame x.cube given ∙ ap (λ cs. cubes_from cs x.level) (sym before.clauses) in
       let inside = (found_fail sys good (run m ts) fit 0 x p may.found).in_frame in

@@ -1,2 +1,11 @@
+pub mod Asking
+pub mod Coming
 pub mod Courses
+pub mod Crew
+pub mod Going
+pub mod Making
 pub mod OneRound
+pub mod Settling
+pub mod Sound
+pub mod Taking
+pub mod Telling
