@@ -1,6 +1,7 @@
 //! Commands over a model that was read.
 
 ghost use Rattle.std.specs.Prelude.{◌≡◌, List};
+ghost use Rattle.std.specs.Thread.{IsSync};
 ghost use Rattle.fo_core.specs.declared.order.Purpose.{Purpose};
 ghost use Rattle.fo_core.specs.SortGraph.{SortEdge, Rises};
 ghost use Rattle.updr_told.specs.Stops.{ComesAs};
@@ -17,12 +18,13 @@ use fo_core::{Order, Purpose};
 use pyv_sorts::Elaborated;
 use std::alloc::Global;
 use std::marker::PhantomData;
+use std::thread::Threads;
 use updr_table::{Course, content};
 use updr_told::{Stop, Told};
 use updr_words::{Form, Job};
 
 /// A command over the system that its first file means. It knows nothing of the model's text.
-pub trait OnModel<R, L> {
+pub trait OnModel<L> {
     /// Its words, with the model as the first file.
     ghost words: { Form };
 
@@ -38,13 +40,14 @@ pub trait OnModel<R, L> {
     /// # Errors
     ///
     /// As [`Course::run`].
-    fn run(
+    fn run<R: Threads + Sync>(
         rt: &R,
         alloc: Global,
         job: &Job<'_>,
         meant: &Elaborated,
         contents: &[Vec<u8>],
     ) -> Result<Told<L>, Stop<L>>
+        requires shared { IsSync R.row }
         requires suits { Suits words (job_of job.now) (contents_of contents.now) }
         requires model { IsModel meant.now.sys meant.now.names }
         ensures { ComesAs (Ends (rows (job_of job.now)) (record { meant = meant.now; contents = contents_of contents.now })) result };
@@ -58,7 +61,7 @@ pub struct OverModel<W> {
     of: PhantomData<W>,
 }
 
-impl<R, L: Drop, W: OnModel<R, L>> Course<R, L> for OverModel<W> {
+impl<L: Drop, W: OnModel<L>> Course<L> for OverModel<W> {
     ghost use Rattle.updr_model.specs.OnModel.{model_command};
     ghost use Rattle.updr_model.specs.Sound.{sound_model};
 
@@ -68,7 +71,12 @@ impl<R, L: Drop, W: OnModel<R, L>> Course<R, L> for OverModel<W> {
         W::form()
     }
 
-    fn run(rt: &R, alloc: Global, job: &Job<'_>, contents: &[Vec<u8>]) -> Result<Told<L>, Stop<L>> {
+    fn run<R: Threads + Sync>(
+        rt: &R,
+        alloc: Global,
+        job: &Job<'_>,
+        contents: &[Vec<u8>],
+    ) -> Result<Told<L>, Stop<L>> {
         let meant = read_model(alloc, content(contents, 0))?;
         W::run(rt, alloc, job, &meant, contents)
     }
@@ -77,7 +85,7 @@ impl<R, L: Drop, W: OnModel<R, L>> Course<R, L> for OverModel<W> {
 }
 
 /// A command over a system that is stratified for what it asks.
-pub trait OnStratified<R, L> {
+pub trait OnStratified<L> {
     /// Its words, with the model as the first file.
     ghost words: { Form };
 
@@ -100,7 +108,7 @@ pub trait OnStratified<R, L> {
     /// # Errors
     ///
     /// As [`Course::run`].
-    fn run(
+    fn run<R: Threads + Sync>(
         rt: &R,
         alloc: Global,
         job: &Job<'_>,
@@ -108,6 +116,7 @@ pub trait OnStratified<R, L> {
         order: &Order,
         contents: &[Vec<u8>],
     ) -> Result<Told<L>, Stop<L>>
+        requires shared { IsSync R.row }
         requires suits { Suits words (job_of job.now) (contents_of contents.now) }
         requires model { IsModel meant.now.sys meant.now.names }
         requires order { Rises (SortEdge meant.now.sys aim) meant.now.sys.sig.sorts order.now.numbers }
@@ -122,7 +131,7 @@ pub struct IfStratified<W> {
     of: PhantomData<W>,
 }
 
-impl<R, L: Drop, W: OnStratified<R, L>> OnModel<R, L> for IfStratified<W> {
+impl<L: Drop, W: OnStratified<L>> OnModel<L> for IfStratified<W> {
     ghost use Rattle.updr_model.specs.OnModel.{if_stratified};
     ghost use Rattle.updr_model.specs.Sound.{sound_stratified};
 
@@ -134,7 +143,7 @@ impl<R, L: Drop, W: OnStratified<R, L>> OnModel<R, L> for IfStratified<W> {
         W::form()
     }
 
-    fn run(
+    fn run<R: Threads + Sync>(
         rt: &R,
         alloc: Global,
         job: &Job<'_>,

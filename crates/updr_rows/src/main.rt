@@ -18,6 +18,7 @@ use std::alloc::Global;
 use std::collections::BTreeSet;
 use std::process::ExitCode;
 use std::rt::Files;
+use std::thread::Threads;
 use std::{env, fs};
 
 /// What was seen of the cases so far.
@@ -47,7 +48,7 @@ impl Report {
     }
 
     /// Runs a case, and prints its line.
-    fn run<R: Print + Files + AllocGlobal>(
+    fn run<R: Print + Files + Threads + Sync + AllocGlobal>(
         &mut self,
         rt: &R,
         case: &Case,
@@ -66,7 +67,7 @@ impl Report {
     }
 
     /// Runs the cases of a file.
-    fn run_file<R: Print + Files + AllocGlobal>(
+    fn run_file<R: Print + Files + Threads + Sync + AllocGlobal>(
         &mut self,
         rt: &R,
         path: &str,

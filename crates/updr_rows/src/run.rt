@@ -5,6 +5,7 @@ use crate::content::{Place, Texts};
 use pv_base::{MemFiles, MemSink};
 use std::alloc::{AllocError, Global};
 use std::rt::Files;
+use std::thread::Threads;
 use updr_top::run_plain;
 
 /// A file of a case, with its bytes.
@@ -17,7 +18,7 @@ struct Loaded {
 /// Runs a case, and answers the first difference from what is wanted.
 ///
 /// An error comes where the case isn't complete, as where a text or a file that it names isn't there.
-pub fn run_case<R: Files + AllocGlobal>(
+pub fn run_case<R: Files + Threads + Sync + AllocGlobal>(
     rt: &R,
     case: &Case,
     texts: &mut Texts,
@@ -44,7 +45,7 @@ fn find<'a>(files: &'a [Loaded], name: &str) -> Option<&'a Loaded> {
 }
 
 /// Runs a case over its files as they are.
-fn run_once<R: Files + AllocGlobal>(
+fn run_once<R: Files + Threads + Sync + AllocGlobal>(
     rt: &R,
     case: &Case,
     texts: &mut Texts,
@@ -59,7 +60,7 @@ fn run_once<R: Files + AllocGlobal>(
 }
 
 /// Runs a case for each proper prefix of a file.
-fn run_prefixes<R: Files + AllocGlobal>(
+fn run_prefixes<R: Files + Threads + Sync + AllocGlobal>(
     rt: &R,
     case: &Case,
     texts: &Texts,
@@ -83,7 +84,7 @@ fn run_prefixes<R: Files + AllocGlobal>(
 }
 
 /// Calls the top call over the files of a case, one of them cut to a prefix.
-fn call<R: Files + AllocGlobal>(
+fn call<R: Files + Threads + Sync + AllocGlobal>(
     rt: &R,
     case: &Case,
     texts: &Texts,

@@ -75,7 +75,7 @@ module _ {L : Type 0} where
       go true is = refl
       go false is = cc
 
-  end_nothing : (s : Status) (bytes : List ℕ) (left : Option L) → 10 ≤ number_of s → ((end_of s bytes left).text ≡ []) × ((end_of s bytes left).left ≡ None)
+  pub end_nothing : (s : Status) (bytes : List ℕ) (left : Option L) → 10 ≤ number_of s → ((end_of s bytes left).text ≡ []) × ((end_of s bytes left).left ≡ None)
   end_nothing s bytes left high = go (is_answer s) (le-ltb (number_of s) 10 high)
     where
       go : (b : Bool) → b ≡ false → ((if b then printing s bytes left else refusal s bytes).text ≡ []) × ((if b then printing s bytes left else refusal s bytes).left ≡ None)

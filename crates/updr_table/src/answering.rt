@@ -6,11 +6,12 @@ ghost use Rattle.updr_table.specs.Table.{Answers, met};
 use crate::listing::Table;
 use pv_base::{Files, Sink};
 use std::alloc::Global;
+use std::thread::Threads;
 use updr_told::{Outcome, tell};
 
 /// Serves the words behind the program's name by these commands, and tells the end to `out` and
 /// `err`.
-pub fn answer<R, L: Drop, T: Table<R, L>, F: Files, O: Sink, E: Sink>(
+pub fn answer<R: Threads + Sync, L: Drop, T: Table<L>, F: Files, O: Sink, E: Sink>(
     rt: &R,
     alloc: Global,
     words: &[String],

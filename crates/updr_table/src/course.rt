@@ -1,4 +1,5 @@
 ghost use Rattle.std.specs.Prelude.{◌≡◌, ◌<◌, length};
+ghost use Rattle.std.specs.Thread.{IsSync};
 ghost use Rattle.updr_told.specs.Stops.{ComesAs};
 ghost use Rattle.updr_words.specs.Forms.{form_of};
 ghost use Rattle.updr_words.specs.Jobs.{job_of};
@@ -6,15 +7,15 @@ ghost use Rattle.updr_table.specs.Commands.{Command, IsSound, Suits};
 ghost use Rattle.updr_table.specs.Rows.{Ends, content_at, contents_of};
 
 use std::alloc::Global;
+use std::thread::Threads;
 use updr_told::{Stop, Told};
 use updr_words::{Form, Job};
 
 /// A command of a program, over the contents of the files that it names. It knows nothing of files
 /// or sinks.
 ///
-/// `R` is the runtime: where a course needs threads, its `impl` has the bound on `R`. `L` is what
-/// an end leaves behind.
-pub trait Course<R, L> {
+/// `L` is what an end leaves behind.
+pub trait Course<L> {
     /// Its words and its table.
     ghost command: { Command L };
 
@@ -28,8 +29,14 @@ pub trait Course<R, L> {
     ///
     /// `Stop::Refused` is an end too, by a row that refuses. `Stop::Memory` comes where memory is
     /// refused.
-    fn run(rt: &R, alloc: Global, job: &Job<'_>, contents: &[Vec<u8>]) -> Result<Told<L>, Stop<L>>
-        requires { Suits command.form (job_of job.now) (contents_of contents.now) }
+    fn run<R: Threads + Sync>(
+        rt: &R,
+        alloc: Global,
+        job: &Job<'_>,
+        contents: &[Vec<u8>],
+    ) -> Result<Told<L>, Stop<L>>
+        requires shared { IsSync R.row }
+        requires suits { Suits command.form (job_of job.now) (contents_of contents.now) }
         ensures { ComesAs (Ends (command.rows (job_of job.now)) (contents_of contents.now))
             result };
 

@@ -1,4 +1,5 @@
 ghost use Rattle.std.specs.Prelude.{◌≡◌, ◌↔◌, ◌∷◌, [], IsTrue, List, Some, map, slice_get, string_bytes};
+ghost use Rattle.std.specs.Thread.{IsSync};
 ghost use Rattle.updr_told.specs.Ends.{usage};
 ghost use Rattle.updr_told.specs.Stops.{ComesAs};
 ghost use Rattle.updr_words.specs.Forms.{form_of};
@@ -10,21 +11,23 @@ use crate::reading::read_files;
 use pv_base::Files;
 use std::alloc::Global;
 use std::marker::PhantomData;
+use std::thread::Threads;
 use updr_told::{Stop, Told};
 use updr_words::{Form, WordsFault, read};
 
 /// The commands of a program.
-pub trait Table<R, L> {
+pub trait Table<L> {
     /// Each with its words and its table.
     ghost commands: { List (Command L) };
 
     /// Serves the words behind the program's name, by the command that the first of them names.
-    fn serve<F: Files>(
+    fn serve<R: Threads + Sync, F: Files>(
         rt: &R,
         alloc: Global,
         words: &[String],
         files: &mut F,
     ) -> Result<Told<L>, Stop<L>>
+        requires { IsSync R.row }
         ensures { ComesAs (MayEnd commands
             (outside F.contents F.faults F.refused files.old files.new)
             (map string_bytes words.now)) result };
@@ -59,7 +62,7 @@ fn usage<L>(alloc: Global) -> Result<Told<L>, Stop<L>>
 }
 
 /// Serves the words of one command.
-fn serve_one<R, L: Drop, C: Course<R, L>, F: Files>(
+fn serve_one<R: Threads + Sync, L: Drop, C: Course<L>, F: Files>(
     rt: &R,
     alloc: Global,
     words: &[String],
@@ -79,10 +82,10 @@ fn serve_one<R, L: Drop, C: Course<R, L>, F: Files>(
     }
 }
 
-impl<R, L> Table<R, L> for Nothing {
+impl<L> Table<L> for Nothing {
     ghost commands = { [] };
 
-    fn serve<F: Files>(
+    fn serve<R: Threads + Sync, F: Files>(
         _rt: &R,
         alloc: Global,
         _words: &[String],
@@ -94,10 +97,10 @@ impl<R, L> Table<R, L> for Nothing {
     ghost sound = { tt };
 }
 
-impl<R, L: Drop, C: Course<R, L>, T: Table<R, L>> Table<R, L> for More<C, T> {
+impl<L: Drop, C: Course<L>, T: Table<L>> Table<L> for More<C, T> {
     ghost commands = { C.command ∷ T.commands };
 
-    fn serve<F: Files>(
+    fn serve<R: Threads + Sync, F: Files>(
         rt: &R,
         alloc: Global,
         words: &[String],

@@ -1,12 +1,15 @@
 -- The statuses of calls, and their numbers.
 use Rattle.std.specs.Prelude.{ℕ, Bool, nat_lt}
 use Rattle.updr_told.specs.declared.status.Status.{Status}
-use Rattle.updr_told.specs.declared.status.Status.TheVariants.{Holds, Unsafe, Over, Wrong, NotInductive, NothingToCheck, Usage, ReadFault, NotRead, Sorts, NotStratified, WriteFault, OutOfMemory, Unsupported, ReportNotRead}
+use Rattle.updr_told.specs.declared.status.Status.TheVariants.{Holds, Unsafe, NoUniversal, Bounded, Spent, Over, Wrong, NotInductive, NothingToCheck, Usage, ReadFault, NotRead, Sorts, NotStratified, WriteFault, OutOfMemory, Unsupported, ReportNotRead}
 
 -- the number that a program ends with
 abbrev pub number_of : Status → ℕ
 number_of Holds = 0
 number_of Unsafe = 1
+number_of NoUniversal = 2
+number_of Bounded = 3
+number_of Spent = 4
 number_of Over = 5
 number_of Wrong = 6
 number_of NotInductive = 7

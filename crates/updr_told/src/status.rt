@@ -8,6 +8,12 @@ pub enum Status {
     Holds,
     /// A violating run was found.
     Unsafe,
+    /// There is no universal invariant, and no violating run that a search could find.
+    NoUniversal,
+    /// A search came to the last frame that it may open.
+    Bounded,
+    /// A search spent its steps.
+    Spent,
     /// A query is above its limit.
     Over,
     /// What a report claims doesn't hold.
@@ -44,6 +50,9 @@ impl Status {
         match self {
             Status::Holds => 0,
             Status::Unsafe => 1,
+            Status::NoUniversal => 2,
+            Status::Bounded => 3,
+            Status::Spent => 4,
             Status::Over => 5,
             Status::Wrong => 6,
             Status::NotInductive => 7,

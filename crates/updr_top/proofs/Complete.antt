@@ -6,6 +6,7 @@ use Rattle.fo_core.specs.declared.order.Purpose.{Purpose}
 use Rattle.fo_core.specs.declared.order.Purpose.TheVariants as purpose
 use Rattle.fo_core.specs.declared.system.System.{System}
 use Rattle.fo_core.specs.SortGraph.{IsStratified}
+use Rattle.up_core.specs.View.{CoreView}
 use Rattle.updr_told.specs.Statuses.{number_of}
 use Rattle.updr_told.specs.declared.status.Status.{Status}
 use Rattle.up_claims.specs.declared.report.Report.{Report}
@@ -20,11 +21,12 @@ use Rattle.updr_top.specs.Bmc.{bmc_command}
 use Rattle.updr_top.specs.Check.{check_command}
 use Rattle.updr_top.specs.Commands.{commands}
 use Rattle.updr_top.specs.Complete.{HasJudgeable, IsComplete}
+use Rattle.updr_top.specs.Infer.{infer_command}
 use Rattle.updr_top.specs.Reported.{HasNoReport, IsAsked, IsSecond, MeansReported, Reported, not_ordered}
 use Rattle.updr_top.specs.Verify.{verify_command}
 
 -- two names of other lengths aren't both the first word
-apart : (words : List (List ℕ)) (a b : List ℕ) → ¬ (length a ≡ length b) → slice_get words 0 ≡ Some a → slice_get words 0 ≡ Some b → ⊥
+pub apart : (words : List (List ℕ)) (a b : List ℕ) → ¬ (length a ≡ length b) → slice_get words 0 ≡ Some a → slice_get words 0 ≡ Some b → ⊥
 apart words a b differ is other = differ (ap long (sym is ∙ other))
   where
     long : Option (List ℕ) → ℕ
@@ -32,11 +34,11 @@ apart words a b differ is other = differ (ap long (sym is ∙ other))
 
 module _ (contents : Contents) (sys : System) (names : Names) (means : MeansText (content_at contents 0) sys names) where
   -- no fault is told
-  whole : (s : Status) → 10 ≤ number_of s → (fault_row {L = Unit {0}} s).comes contents → ⊥
+  whole : (s : Status) → 10 ≤ number_of s → (fault_row {L = CoreView} s).comes contents → ⊥
   whole s high (t, f, is) = no_fault (content_at contents 0) sys names means t f
 
   -- a stratified system isn't refused
-  ordered : (p : Purpose) → IsStratified sys p → ((g : Given) × MeansGiven contents g × (cycle_row {L = Unit {0}} p).comes g) → ⊥
+  ordered : (p : Purpose) → IsStratified sys p → ((g : Given) × MeansGiven contents g × (cycle_row {L = CoreView} p).comes g) → ⊥
   ordered p is (g, given, none) =
       let same = one_meaning (content_at contents 0) sys names means g.meant.sys g.meant.names given.text in
       none (subst (λ (s : System). IsStratified s p) same.0 is)
@@ -71,6 +73,9 @@ module _ (contents : Contents) (sys : System) (names : Names) (means : MeansText
 
   bmc_unrefused : (job : Job) → IsStratified sys purpose.Infer → NoneRefuses (bmc_command.rows job) contents
   bmc_unrefused job is = (whole _, (whole _, (whole _, ((λ high. ordered purpose.Infer is), ((λ high. absurd (omega (arith, high))), ((λ high. absurd (omega (arith, high))), ((λ high. absurd (omega (arith, high))), tt)))))))
+
+  infer_unrefused : (job : Job) → IsStratified sys purpose.Infer → NoneRefuses (infer_command.rows job) contents
+  infer_unrefused job is = (whole _, (whole _, (whole _, ((λ high. ordered purpose.Infer is), ((λ high. absurd (omega (arith, high))), ((λ high. absurd (omega (arith, high))), ((λ high. absurd (omega (arith, high))), ((λ high. absurd (omega (arith, high))), ((λ high. absurd (omega (arith, high))), ((λ high. absurd (omega (arith, high))), tt))))))))))
 
 -- ---- the statuses of answers
 
@@ -110,11 +115,29 @@ module _ (contents : Contents) (n : ℕ) where
   bmc_answers job (inr (low, inr (inr (inr (inr (inr (inr (inl (_, is))))))))) = inr (inr (inl is))
   bmc_answers job (inr (low, inr (inr (inr (inr (inr (inr (inr none)))))))) = absurd none
 
+  infer_answers : (job : Job) → (n ≡ 16) ⊎ ((n < 10) × IsOneOf (infer_command.rows job) contents n) → (n ≤ 5) ⊎ (n ≡ 16)
+  infer_answers job (inl is) = inr is
+  infer_answers job (inr (low, inl (_, is))) = absurd (omega (arith, low, is))
+  infer_answers job (inr (low, inr (inl (_, is)))) = absurd (omega (arith, low, is))
+  infer_answers job (inr (low, inr (inr (inl (_, is))))) = absurd (omega (arith, low, is))
+  infer_answers job (inr (low, inr (inr (inr (inl (_, is)))))) = absurd (omega (arith, low, is))
+  infer_answers job (inr (low, inr (inr (inr (inr (inl (_, is))))))) = inl (omega (arith, is))
+  infer_answers job (inr (low, inr (inr (inr (inr (inr (inl (_, is)))))))) = inl (omega (arith, is))
+  infer_answers job (inr (low, inr (inr (inr (inr (inr (inr (inl (_, is))))))))) = inl (omega (arith, is))
+  infer_answers job (inr (low, inr (inr (inr (inr (inr (inr (inr (inl (_, is)))))))))) = inl (omega (arith, is))
+  infer_answers job (inr (low, inr (inr (inr (inr (inr (inr (inr (inr (inl (_, is))))))))))) = inl (omega (arith, is))
+  infer_answers job (inr (low, inr (inr (inr (inr (inr (inr (inr (inr (inr (inl (_, is)))))))))))) = inl (omega (arith, is))
+  infer_answers job (inr (low, inr (inr (inr (inr (inr (inr (inr (inr (inr (inr none))))))))))) = absurd none
+
 -- ---- the clause
 
-module _ (words : List (List ℕ)) (call : Call (Unit {0})) (all : AreComplete commands words call) where
+module _ (words : List (List ℕ)) (call : Call CoreView) (all : AreComplete commands words call) where
   pub is_complete : IsComplete words call
   is_complete = record {
+    updr = λ h.
+        infer_answers h.contents call.number h.job
+        ((((all.1 (λ other. apart words (codes "check") (codes "updr") (λ is. absurd (omega (arith, is))) other h.named)).1 (λ other. apart words (codes "verify") (codes "updr") (λ is. absurd (omega (arith, is))) other h.named)).1 (λ other. apart words (codes "bmc") (codes "updr") (λ is. absurd (omega (arith, is))) other h.named)).0 h.named h.job h.asked h.contents
+        (record { good = h.good; out_quiet = h.out_quiet; err_quiet = h.err_quiet; unrefused = infer_unrefused h.contents h.sys h.names h.means h.job h.is }));
     check = λ h.
         check_answers h.contents call.number h.job
         (all.0 h.named h.job h.asked h.contents

@@ -1,4 +1,10 @@
 pub mod Complete
+pub mod EachOne
 pub mod Ended
 pub mod Judgeable
+pub mod Left
+pub mod OneVerdict
+pub mod Ranged
 pub mod ReportEnds
+pub mod SearchEnds
+pub mod Shown

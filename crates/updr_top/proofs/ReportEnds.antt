@@ -8,6 +8,7 @@ use Rattle.fo_core.specs.declared.order.Purpose.TheVariants.{Infer}
 use Rattle.fo_core.specs.SortGraph.{SortEdge, Rises}
 use Rattle.up_claims.specs.declared.report.Report.{Report}
 use Rattle.pv_base.specs.Reading.{limit}
+use Rattle.up_core.specs.View.{CoreView}
 use Rattle.updr_told.specs.Ends.{End}
 use Rattle.updr_told.specs.Stops.{IfRefused}
 use Rattle.updr_told.specs.declared.stop.Stop.{Stop}
@@ -35,7 +36,7 @@ both_refused T Memory P Q p q = tt
 
 module _ (g : Given) where
   -- a text that is no report is refused by the row for it
-  pub unread_ends : (rows : List (Row Reported (Unit {0}))) (e : End (Unit {0})) → RefusesReport g.meant (content_at g.contents 1) e → Ends (over_report rows) g e
+  pub unread_ends : (rows : List (Row Reported CoreView)) (e : End CoreView) → RefusesReport g.meant (content_at g.contents 1) e → Ends (over_report rows) g e
   unread_ends rows e h =
       refusal_ends MeansReported g (not_read ∷ []) rows e
       (inl (record { comes = h.stops.none; bytes = not_read_words (content_at g.contents 1) h.place; left = None; says = (h.place, h.stops, refl); is = h.is }))
@@ -45,11 +46,11 @@ module _ (g : Given) where
     read = record { given = g; report = r }
 
     -- a report that is read ends by a row over it
-    read_ends : IsTheReport g.meant (content_at g.contents 1) r → (rows : List (Row Reported (Unit {0}))) (e : End (Unit {0})) → Ends rows read e → Ends (over_report rows) g e
+    read_ends : IsTheReport g.meant (content_at g.contents 1) r → (rows : List (Row Reported CoreView)) (e : End CoreView) → Ends rows read e → Ends (over_report rows) g e
     read_ends is rows e h = meaning_ends MeansReported g (not_read ∷ []) read (record { is = is.is; only = is.only; same = refl }) rows e h
 
     -- a system without an order is refused by the row for it
-    pub unordered_ends : IsTheReport g.meant (content_at g.contents 1) r → (rows : List (Row Reported (Unit {0}))) (e : End (Unit {0})) → IsAsked r.verdict → RefusesSystem Infer g.meant.sys g.meant.names e → Ends (over_report (if_ordered rows)) g e
+    pub unordered_ends : IsTheReport g.meant (content_at g.contents 1) r → (rows : List (Row Reported CoreView)) (e : End CoreView) → IsAsked r.verdict → RefusesSystem Infer g.meant.sys g.meant.names e → Ends (over_report (if_ordered rows)) g e
     unordered_ends is rows e asked h =
         read_ends is (if_ordered rows) e
         (refusal_ends IsOrderedReported read (not_ordered ∷ []) rows e
@@ -57,7 +58,7 @@ module _ (g : Given) where
 
     -- what is judged ends by a row of the table
     pub judged_ends : IsTheReport g.meant (content_at g.contents 1) r → (order : Order) → (IsAsked r.verdict → Rises (SortEdge g.meant.sys Infer) g.meant.sys.sig.sorts order.numbers)
-        → (rows : List (Row Reported (Unit {0}))) (e : End (Unit {0})) → Ends rows read e → Ends (over_report (if_ordered rows)) g e
+        → (rows : List (Row Reported CoreView)) (e : End CoreView) → Ends rows read e → Ends (over_report (if_ordered rows)) g e
     judged_ends is order rises rows e h =
         read_ends is (if_ordered rows) e
         (meaning_ends IsOrderedReported read (not_ordered ∷ []) read (record { ordered = λ asked. (order.numbers, rises asked); same = refl }) rows e h)

@@ -1,5 +1,5 @@
 -- The command `bmc`: the shortest violating run of few steps.
-use Rattle.std.specs.Prelude.{◌≡◌, ◌≤◌, ℕ, List, [], ◌∷◌, ◌++◌, codes, refl, slice_index_or}
+use Rattle.std.specs.Prelude.{◌≡◌, ◌≤◌, ℕ, List, [], ◌∷◌, ◌++◌, None, codes, refl, slice_index_or}
 use Rattle.std.specs.List.{All}
 use Rattle.std.proofs.Common.{arith}
 use Rattle.clap.proofs.OnLiterals.{clap_on_literals}
@@ -16,6 +16,7 @@ use Rattle.up_claims.specs.declared.report.Report.{Report}
 use Rattle.up_claims.specs.declared.verdict.Verdict.{Verdict}
 use Rattle.up_claims.specs.declared.verdict.Verdict.TheVariants as verdict
 use Rattle.up_claims.specs.RunQueries.{run_query, run_queries, HasNoRunOf, IsLeastRun}
+use Rattle.up_core.specs.View.{CoreView}
 use Rattle.up_report.specs.Texts.{report_text}
 use Rattle.up_unroll.specs.Unrolling.{IsUnrollExcess}
 use Rattle.updr_told.specs.declared.status.Status.TheVariants.{Holds, Unsafe, Over}
@@ -68,28 +69,36 @@ pub record FindsRun (sys : System) (limit depth : ℕ) (w : World) : Type 0 wher
   pub least : IsLeastRun sys depth steps w
   pub light : All (IsLight sys.sig limit) (run_queries sys steps ++ least_queries sys.sig (run_query sys steps) w)
 
--- ---- the table
+-- ---- the table; none of its ends leaves anything
 
 -- the least of the shortest runs is reported
-abbrev pub found : ℕ → ℕ → Row Given (Unit {0})
+abbrev pub found : ℕ → ℕ → Row Given CoreView
 found depth limit = record {
   status = Unsafe;
   comes = λ g. HasRun depth limit g.meant.sys;
-  says = λ g text left. (w : World) × FindsRun g.meant.sys limit depth w × (text ≡ verdict_text g.meant (verdict.Unsafe w));
+  says = λ g text left.
+      (w : World) × FindsRun g.meant.sys limit depth w
+      × (text ≡ verdict_text g.meant (verdict.Unsafe w)) × (left ≡ None);
 }
 
-abbrev pub not_found : ℕ → ℕ → Row Given (Unit {0})
-not_found depth limit = record { status = Holds; comes = λ g. HasNoRun depth limit g.meant.sys; says = λ g text left. text ≡ verdict_text g.meant (verdict.NoRun depth) }
+abbrev pub not_found : ℕ → ℕ → Row Given CoreView
+not_found depth limit = record {
+  status = Holds;
+  comes = λ g. HasNoRun depth limit g.meant.sys;
+  says = λ g text left. (text ≡ verdict_text g.meant (verdict.NoRun depth)) × (left ≡ None);
+}
 
 -- the weight of the first query above the limit is reported
-abbrev pub above : ℕ → ℕ → Row Given (Unit {0})
+abbrev pub above : ℕ → ℕ → Row Given CoreView
 above depth limit = record {
   status = Over;
   comes = λ g. IsAbove depth limit g.meant.sys;
-  says = λ g text left. (x : Excess) × IsUnrollExcess g.meant.sys limit depth x × (text ≡ verdict_text g.meant (verdict.Over Unroll x.weight));
+  says = λ g text left.
+      (x : Excess) × IsUnrollExcess g.meant.sys limit depth x
+      × (text ≡ verdict_text g.meant (verdict.Over Unroll x.weight)) × (left ≡ None);
 }
 
-abbrev pub bmc_table : ℕ → ℕ → List (Row Given (Unit {0}))
+abbrev pub bmc_table : ℕ → ℕ → List (Row Given CoreView)
 bmc_table depth limit = found depth limit ∷ not_found depth limit ∷ above depth limit ∷ []
 
 abbrev pub bmc_depth : Job → ℕ
@@ -98,10 +107,10 @@ bmc_depth job = slice_index_or job.numbers 0 0
 abbrev pub bmc_limit : Job → ℕ
 bmc_limit job = slice_index_or job.numbers 1 0
 
-abbrev pub bmc_rows : Job → List (Row Given (Unit {0}))
+abbrev pub bmc_rows : Job → List (Row Given CoreView)
 bmc_rows job = bmc_table (bmc_depth job) (bmc_limit job)
 
-abbrev pub bmc_command : Command (Unit {0})
+abbrev pub bmc_command : Command CoreView
 bmc_command = model_command bmc_form (λ job. if_stratified purpose.Infer (bmc_rows job))
 
 -- ---- it is sound

@@ -1,5 +1,5 @@
 -- The command `check`: whether what a report says of a model is so.
-use Rattle.std.specs.Prelude.{◌≡◌, ℕ, List, [], ◌∷◌, ◌++◌, codes, decimal, slice_index_or, ⊤}
+use Rattle.std.specs.Prelude.{◌≡◌, ℕ, List, [], ◌∷◌, ◌++◌, None, codes, decimal, slice_index_or, ⊤}
 use Rattle.std.specs.List.{All}
 use Rattle.fo_core.specs.declared.system.System.{System}
 use Rattle.fo_core.specs.Finds.{IsLight}
@@ -12,6 +12,7 @@ use Rattle.up_cert.specs.declared.spot.Spot.{Spot}
 use Rattle.up_cert.specs.declared.spot.What.{What}
 use Rattle.up_cert.specs.declared.spot.What.TheVariants as what
 use Rattle.up_cert.specs.Judging.{IsJudged}
+use Rattle.up_core.specs.View.{CoreView}
 use Rattle.updr_told.specs.declared.status.Status.TheVariants as status
 use Rattle.updr_words.specs.Forms.{Form}
 use Rattle.updr_words.specs.Jobs.{Job}
@@ -79,48 +80,48 @@ pub record IsWrongAt (sys : System) (limit : ℕ) (told : Verdict) (spot : Spot)
 abbrev pub IsOverAt : System → ℕ → Verdict → ℕ → Type 0
 IsOverAt sys limit told weight = IsJudged sys limit told (judged.Over weight)
 
--- ---- the table
+-- ---- the table; none of its ends leaves anything
 
-abbrev pub holds : ℕ → Row Reported (Unit {0})
+abbrev pub holds : ℕ → Row Reported CoreView
 holds limit = record {
   status = status.Holds;
   comes = λ r. IsConfirmed r.given.meant.sys limit r.report.verdict;
-  says = λ r text left. text ≡ codes "holds\n";
+  says = λ r text left. (text ≡ codes "holds\n") × (left ≡ None);
 }
 
-abbrev pub wrong : ℕ → Row Reported (Unit {0})
+abbrev pub wrong : ℕ → Row Reported CoreView
 wrong limit = record {
   status = status.Wrong;
   comes = λ r. (spot : Spot) × IsWrongAt r.given.meant.sys limit r.report.verdict spot;
   says = λ r text left.
       (spot : Spot) × IsWrongAt r.given.meant.sys limit r.report.verdict spot
-      × (text ≡ wrong_text r.report.verdict spot);
+      × (text ≡ wrong_text r.report.verdict spot) × (left ≡ None);
 }
 
-abbrev pub too_heavy : ℕ → Row Reported (Unit {0})
+abbrev pub too_heavy : ℕ → Row Reported CoreView
 too_heavy limit = record {
   status = status.Over;
   comes = λ r. (weight : ℕ) × IsOverAt r.given.meant.sys limit r.report.verdict weight;
   says = λ r text left.
       (weight : ℕ) × IsOverAt r.given.meant.sys limit r.report.verdict weight
-      × (text ≡ over_check_text weight);
+      × (text ≡ over_check_text weight) × (left ≡ None);
 }
 
-abbrev pub nothing : Row Reported (Unit {0})
+abbrev pub nothing : Row Reported CoreView
 nothing = record {
   status = status.NothingToCheck;
   comes = λ r. ¬ Claims r.report.verdict;
-  says = λ r text left. text ≡ codes "nothing to check\n";
+  says = λ r text left. (text ≡ codes "nothing to check\n") × (left ≡ None);
 }
 
-abbrev pub judge_table : ℕ → List (Row Reported (Unit {0}))
+abbrev pub judge_table : ℕ → List (Row Reported CoreView)
 judge_table limit = holds limit ∷ wrong limit ∷ too_heavy limit ∷ nothing ∷ []
 
 abbrev pub check_limit : Job → ℕ
 check_limit job = slice_index_or job.numbers 0 0
 
-abbrev pub check_rows : Job → List (Row Given (Unit {0}))
+abbrev pub check_rows : Job → List (Row Given CoreView)
 check_rows job = over_report (if_ordered (judge_table (check_limit job)))
 
-abbrev pub check_command : Command (Unit {0})
+abbrev pub check_command : Command CoreView
 check_command = model_command check_form check_rows

@@ -1,5 +1,5 @@
 -- What each command answers where nothing is refused.
-use Rattle.std.specs.Prelude.{◌≡◌, ◌⊎◌, ℕ, List}
+use Rattle.std.specs.Prelude.{◌≡◌, ◌⊎◌, ℕ, ◌≤◌, List}
 use Rattle.fo_core.specs.declared.names.Names.{Names}
 use Rattle.fo_core.specs.declared.order.Purpose.{Purpose}
 use Rattle.fo_core.specs.declared.order.Purpose.TheVariants as purpose
@@ -7,6 +7,7 @@ use Rattle.fo_core.specs.declared.system.System.{System}
 use Rattle.fo_core.specs.SortGraph.{IsStratified}
 use Rattle.pv_base.specs.Counts.{Rose}
 use Rattle.up_claims.specs.declared.report.Report.{Report}
+use Rattle.up_core.specs.View.{CoreView}
 use Rattle.up_report.specs.Reports.{IsReport}
 use Rattle.updr_words.specs.Jobs.{IsJob, Job}
 use Rattle.updr_table.specs.Commands.{Command, IsNamed}
@@ -15,6 +16,7 @@ use Rattle.updr_table.specs.Table.{AreGood, Call}
 use Rattle.updr_model.specs.Texts.{MeansText}
 use Rattle.updr_top.specs.Bmc.{bmc_command}
 use Rattle.updr_top.specs.Check.{check_command}
+use Rattle.updr_top.specs.Infer.{infer_command}
 use Rattle.updr_top.specs.Reported.{IsAsked}
 use Rattle.updr_top.specs.Verify.{verify_command}
 
@@ -45,7 +47,10 @@ abbrev pub IsStratifiedFor : Purpose → System → Names → Contents → Type 
 IsStratifiedFor purpose sys names contents = IsStratified sys purpose
 
 -- The statuses of good calls. Want of memory, 16, is always free.
-pub record IsComplete (words : List (List ℕ)) (call : Call (Unit {0})) : Type 0 where
+pub record IsComplete (words : List (List ℕ)) (call : Call CoreView) : Type 0 where
+  pub updr :
+      IsGoodCall infer_command (IsStratifiedFor purpose.Infer) words call
+      → (call.number ≤ 5) ⊎ (call.number ≡ 16)
   pub check :
       IsGoodCall check_command HasJudgeable words call
       → (call.number ≡ 0) ⊎ (call.number ≡ 5) ⊎ (call.number ≡ 6) ⊎ (call.number ≡ 8)

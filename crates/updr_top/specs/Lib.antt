@@ -3,8 +3,12 @@ pub mod Check
 pub mod CheckSound
 pub mod Commands
 pub mod Complete
+pub mod Infer
+pub mod Narrow
+pub mod OneStatus
 pub mod Options
 pub mod Reading
 pub mod Reported
+pub mod Searched
 pub mod Served
 pub mod Verify

@@ -6,6 +6,7 @@ use Rattle.pyv_strat.specs.Refusal.{IsUnstratified}
 use Rattle.up_claims.specs.declared.report.Report.{Report}
 use Rattle.up_claims.specs.declared.verdict.Verdict.{Verdict}
 use Rattle.up_claims.specs.declared.verdict.Verdict.TheVariants as verdict
+use Rattle.up_core.specs.View.{CoreView}
 use Rattle.up_report.specs.Reports.{IsReport, StopsAt}
 use Rattle.updr_told.specs.Places.{column_at, line_at, place_words}
 use Rattle.updr_told.specs.declared.status.Status.TheVariants.{NotStratified, ReportNotRead}
@@ -42,7 +43,7 @@ not_read_words bytes place =
     ++ (place_words (line_at bytes place) (column_at bytes place) ++ codes ": not read")
 
 -- a text that is none is refused, and the first place is told at which no report goes on
-abbrev pub not_read : Row Given (Unit {0})
+abbrev pub not_read : Row Given CoreView
 not_read = record {
   status = ReportNotRead;
   comes = HasNoReport;
@@ -52,7 +53,7 @@ not_read = record {
 }
 
 -- a text that is no report is refused; else the rows over the report
-abbrev pub over_report : List (Row Reported (Unit {0})) → List (Row Given (Unit {0}))
+abbrev pub over_report : List (Row Reported CoreView) → List (Row Given CoreView)
 over_report rows = refused_else (not_read ∷ []) MeansReported rows
 
 -- ---- the stage that asks for an order of the sorts, where the verdict is judged by queries
@@ -73,7 +74,7 @@ pub record IsOrderedReported (r s : Reported) : Type 0 where
   pub same : s ≡ r
 
 -- queries are to be asked and it isn't; the first of the shortest cycles of its sort graph is told
-abbrev pub not_ordered : Row Reported (Unit {0})
+abbrev pub not_ordered : Row Reported CoreView
 not_ordered = record {
   status = NotStratified;
   comes = λ r. IsAsked r.report.verdict × (¬ IsStratified r.given.meant.sys Infer);
@@ -83,5 +84,5 @@ not_ordered = record {
 }
 
 -- such a system is refused; else the rows over the report
-abbrev pub if_ordered : List (Row Reported (Unit {0})) → List (Row Reported (Unit {0}))
+abbrev pub if_ordered : List (Row Reported CoreView) → List (Row Reported CoreView)
 if_ordered rows = refused_else (not_ordered ∷ []) IsOrderedReported rows

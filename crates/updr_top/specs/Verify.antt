@@ -8,6 +8,7 @@ use Rattle.fo_core.specs.declared.world.World.{World}
 use Rattle.fo_text.specs.Texts.{text_of}
 use Rattle.up_claims.specs.VerifyQueries.{Case, verify_cases, verify_weight}
 use Rattle.pyv_sorts.specs.declared.model.Elaborated.{Elaborated}
+use Rattle.up_core.specs.View.{CoreView}
 use Rattle.up_verify.specs.Verifying.{IsVerified, FailsFirst, IsOverFirst}
 use Rattle.up_verify.proofs.Cases.{fails_or_over, verified_or_fails, verified_or_over}
 use Rattle.updr_told.specs.declared.status.Status.TheVariants.{Holds, NotInductive, Over}
@@ -39,38 +40,46 @@ failing_text e c w = codes "not inductive " ++ case_words e.names c.step c.prope
 abbrev pub heavy_text : ℕ → List ℕ
 heavy_text weight = codes "over verify " ++ decimal weight ++ codes "\n"
 
--- ---- the table; each query may weigh at most so much
+-- ---- the table; each query may weigh at most this, and no end leaves anything
 
 -- inductive, and no query is above the limit
-abbrev pub inductive : ℕ → Row Given (Unit {0})
-inductive limit = record { status = Holds; comes = λ g. IsVerified g.meant.sys limit; says = λ g text left. text ≡ codes "inductive\n" }
+abbrev pub inductive : ℕ → Row Given CoreView
+inductive limit = record {
+  status = Holds;
+  comes = λ g. IsVerified g.meant.sys limit;
+  says = λ g text left. (text ≡ codes "inductive\n") × (left ≡ None);
+}
 
 -- a query has a world and none up to it is above the limit
-abbrev pub failing : ℕ → Row Given (Unit {0})
+abbrev pub failing : ℕ → Row Given CoreView
 failing limit = record {
   status = NotInductive;
   comes = λ g. (c : Case) × (w : World) × FailsFirst g.meant.sys limit (verify_cases g.meant.sys) c w;
-  says = λ g text left. (c : Case) × (w : World) × FailsFirst g.meant.sys limit (verify_cases g.meant.sys) c w × (text ≡ failing_text g.meant c w);
+  says = λ g text left.
+      (c : Case) × (w : World) × FailsFirst g.meant.sys limit (verify_cases g.meant.sys) c w
+      × (text ≡ failing_text g.meant c w) × (left ≡ None);
 }
 
 -- a query is above the limit and none before it has a world
-abbrev pub too_heavy : ℕ → Row Given (Unit {0})
+abbrev pub too_heavy : ℕ → Row Given CoreView
 too_heavy limit = record {
   status = Over;
   comes = λ g. (c : Case) × IsOverFirst g.meant.sys limit (verify_cases g.meant.sys) c;
-  says = λ g text left. (c : Case) × IsOverFirst g.meant.sys limit (verify_cases g.meant.sys) c × (text ≡ heavy_text (verify_weight g.meant.sys c));
+  says = λ g text left.
+      (c : Case) × IsOverFirst g.meant.sys limit (verify_cases g.meant.sys) c
+      × (text ≡ heavy_text (verify_weight g.meant.sys c)) × (left ≡ None);
 }
 
-abbrev pub verify_table : ℕ → List (Row Given (Unit {0}))
+abbrev pub verify_table : ℕ → List (Row Given CoreView)
 verify_table limit = inductive limit ∷ failing limit ∷ too_heavy limit ∷ []
 
 abbrev pub verify_limit : Job → ℕ
 verify_limit job = slice_index_or job.numbers 0 0
 
-abbrev pub verify_rows : Job → List (Row Given (Unit {0}))
+abbrev pub verify_rows : Job → List (Row Given CoreView)
 verify_rows job = verify_table (verify_limit job)
 
-abbrev pub verify_command : Command (Unit {0})
+abbrev pub verify_command : Command CoreView
 verify_command = model_command verify_form (λ job. if_stratified purpose.Verify (verify_rows job))
 
 -- ---- it is sound

@@ -1,5 +1,4 @@
 ghost use Rattle.std.specs.Prelude.{◌≡◌, ◌<◌, ◌≤◌, ◌^◌, length, IfOk, None};
-ghost use Rattle.std.specs.List.{All};
 ghost use Rattle.fo_core.specs.declared.order.Purpose.TheVariants as purpose;
 ghost use Rattle.fo_core.specs.SortGraph.{SortEdge, Rises};
 ghost use Rattle.fo_core.specs.Tables.{Fits};
@@ -11,10 +10,13 @@ ghost use Rattle.updr_table.specs.Rows.{Contents, Ends};
 ghost use Rattle.updr_model.specs.Texts.{IsModel};
 ghost use Rattle.updr_top.specs.Bmc.{bmc_table, verdict_text};
 
+use crate::narrow::go_through;
 use crate::options::{WEIGHT, finder};
 use fo_core::{Finder, Order, Purpose, World};
 use std::alloc::{AllocError, Global};
+use std::thread::Threads;
 use up_claims::{Numbers, Report, Verdict};
+use up_core::Core;
 use up_report::write;
 use up_unroll::{Unrolled, unroll};
 use updr_model::{Elaborated, OnStratified};
@@ -42,7 +44,7 @@ fn reported(
     meant: &Elaborated,
     status: Status,
     verdict: Verdict,
-) -> Result<Told<()>, AllocError>
+) -> Result<Told<Core>, AllocError>
     requires model { IsModel meant.now.sys meant.now.names }
     requires ranged { HasVerdict meant.now.sys.sig verdict }
     ensures { IfOk result (λ end. end ≡ printing status (verdict_text meant.now verdict) None) }
@@ -56,17 +58,8 @@ fn reported(
     Ok(Told::printing(alloc, status, text))
 }
 
-/// Looks at each size, so that it is known to be a number of 32 bits, as the text of a world asks.
-fn go_through(sizes: &[u32])
-    ensures { All (λ n. n < 2 ^ 32) sizes.now }
-{
-    'each: for size in sizes {
-        let _size = *size;
-    }
-}
-
 /// The end that reports a violating run.
-fn unsafe_run(alloc: Global, meant: &Elaborated, world: World) -> Result<Told<()>, AllocError>
+fn unsafe_run(alloc: Global, meant: &Elaborated, world: World) -> Result<Told<Core>, AllocError>
     requires model { IsModel meant.now.sys meant.now.names }
     requires fits { Fits meant.now.sys.sig world }
     requires few { length world.copies ≤ 65 }
@@ -84,7 +77,7 @@ fn unrolled<F: Finder>(
     order: &Order,
     depth: u32,
     finder: &mut F,
-) -> Result<Told<()>, AllocError>
+) -> Result<Told<Core>, AllocError>
     requires model { IsModel meant.now.sys meant.now.names }
     requires order { Rises (SortEdge meant.now.sys purpose.Infer)
         meant.now.sys.sig.sorts order.now.numbers }
@@ -106,7 +99,7 @@ fn unrolled<F: Finder>(
 /// fewest steps it reports the least, by the sizes of the sorts and then by the values of the tables.
 pub struct Bmc;
 
-impl<R> OnStratified<R, ()> for Bmc {
+impl OnStratified<Core> for Bmc {
     ghost use Rattle.fo_core.specs.declared.order.Purpose.TheVariants as purpose;
     ghost use Rattle.updr_top.specs.Bmc.{bmc_form, bmc_rows, bmc_sound};
 
@@ -129,14 +122,14 @@ impl<R> OnStratified<R, ()> for Bmc {
         Purpose::Infer
     }
 
-    fn run(
+    fn run<R: Threads + Sync>(
         _rt: &R,
         alloc: Global,
         job: &Job<'_>,
         meant: &Elaborated,
         order: &Order,
         _contents: &[Vec<u8>],
-    ) -> Result<Told<()>, Stop<()>> {
+    ) -> Result<Told<Core>, Stop<Core>> {
         let mut finder = finder(job.numbers[1]);
         Ok(unrolled(alloc, meant, order, job.numbers[0], &mut finder)?)
     }

@@ -9,8 +9,10 @@ use crate::options::{WEIGHT, finder};
 use crate::reported::{order_if_asked, read_report};
 use fo_core::{Finder, Order};
 use std::alloc::{AllocError, Global};
+use std::thread::Threads;
 use up_cert::{Judged, Spot, What, judge};
 use up_claims::{Report, Verdict};
+use up_core::Core;
 use updr_model::{Elaborated, OnModel};
 use updr_table::content;
 use updr_told::{Status, Stop, Told};
@@ -58,14 +60,14 @@ fn wrong_line(alloc: Global, verdict: &Verdict, spot: Spot) -> Result<Vec<u8>, A
 }
 
 /// The end that tells that the verdict holds.
-fn confirmed(alloc: Global) -> Result<Told<()>, AllocError>
+fn confirmed(alloc: Global) -> Result<Told<Core>, AllocError>
     ensures { IfOk result (λ end. end ≡ printing status.Holds (codes "holds\n") None) }
 {
     Ok(Told::printing(alloc, Status::Holds, b"holds\n".to_vec(alloc)?))
 }
 
 /// The end that tells which spot fails.
-fn wrong(alloc: Global, verdict: &Verdict, spot: Spot) -> Result<Told<()>, AllocError>
+fn wrong(alloc: Global, verdict: &Verdict, spot: Spot) -> Result<Told<Core>, AllocError>
     ensures { IfOk result (λ end. end ≡ printing status.Wrong (wrong_text verdict.now spot) None) }
 {
     let line = wrong_line(alloc, verdict, spot)?;
@@ -73,7 +75,7 @@ fn wrong(alloc: Global, verdict: &Verdict, spot: Spot) -> Result<Told<()>, Alloc
 }
 
 /// The end that tells a query that is too heavy.
-fn too_heavy(alloc: Global, weight: u64) -> Result<Told<()>, AllocError>
+fn too_heavy(alloc: Global, weight: u64) -> Result<Told<Core>, AllocError>
     ensures { IfOk result (λ end. end ≡ printing status.Over (over_check_text weight) None) }
 {
     let line = format!(in alloc; "over check {weight}\n")?;
@@ -81,7 +83,7 @@ fn too_heavy(alloc: Global, weight: u64) -> Result<Told<()>, AllocError>
 }
 
 /// The end that tells that the verdict says nothing of the model.
-fn nothing(alloc: Global) -> Result<Told<()>, AllocError>
+fn nothing(alloc: Global) -> Result<Told<Core>, AllocError>
     ensures { IfOk result (λ end. end
         ≡ printing status.NothingToCheck (codes "nothing to check\n") None) }
 {
@@ -96,7 +98,7 @@ fn judged<F: Finder>(
     order: &Order,
     report: &Report,
     finder: &mut F,
-) -> Result<Told<()>, AllocError>
+) -> Result<Told<Core>, AllocError>
     requires { CanJudgeVerdict meant.now.sys order.now report.now.verdict }
     ensures { IfOk result (λ end. (cs : Contents)
         → Ends (judge_table (F.limit finder.old))
@@ -113,7 +115,7 @@ fn judged<F: Finder>(
 /// `check MODEL REPORT` says whether what a report says of a model is so.
 pub struct Check;
 
-impl<R> OnModel<R, ()> for Check {
+impl OnModel<Core> for Check {
     ghost use Rattle.updr_top.specs.Check.{check_form, check_rows};
     ghost use Rattle.updr_top.specs.CheckSound.{check_sound};
 
@@ -130,13 +132,13 @@ impl<R> OnModel<R, ()> for Check {
         }
     }
 
-    fn run(
+    fn run<R: Threads + Sync>(
         _rt: &R,
         alloc: Global,
         job: &Job<'_>,
         meant: &Elaborated,
         contents: &[Vec<u8>],
-    ) -> Result<Told<()>, Stop<()>> {
+    ) -> Result<Told<Core>, Stop<Core>> {
         let report = read_report(alloc, meant, content(contents, 1))?;
         let order = order_if_asked(alloc, meant, &report.verdict)?;
         let mut finder = finder(job.numbers[0]);

@@ -3,9 +3,13 @@
 
 mod bmc;
 mod check;
+mod infer;
+mod laws;
+mod narrow;
 mod options;
 mod reported;
 mod top;
 mod verify;
 
+pub use laws::workers_change_no_report;
 pub use top::{Ending, run_plain, tell_out_of_memory};

@@ -16,12 +16,13 @@ ghost use Rattle.updr_top.specs.Reading.{IsTheReport, RefusesReport};
 use fo_core::{Order, Purpose, Seq};
 use std::alloc::{AllocError, Global};
 use up_claims::{Report, Verdict};
+use up_core::Core;
 use up_report::{ReportFault, read};
 use updr_model::{Elaborated, order_for};
 use updr_told::{Place, Status, Stop, Told};
 
 /// The end that refuses a text at the byte at which no report goes on.
-fn not_read(alloc: Global, bytes: &[u8], place: u32) -> Result<Told<()>, AllocError>
+fn not_read(alloc: Global, bytes: &[u8], place: u32) -> Result<Told<Core>, AllocError>
     requires { length bytes.now < 2 ^ 32 }
     ensures { IfOk result (λ end. end ≡ refusal ReportNotRead (not_read_words bytes.now place)) }
 {
@@ -35,7 +36,7 @@ fn not_read(alloc: Global, bytes: &[u8], place: u32) -> Result<Told<()>, AllocEr
 /// # Errors
 ///
 /// The bytes are refused at the first at which no report goes on.
-pub fn read_report(alloc: Global, meant: &Elaborated, bytes: &[u8]) -> Result<Report, Stop<()>>
+pub fn read_report(alloc: Global, meant: &Elaborated, bytes: &[u8]) -> Result<Report, Stop<Core>>
     requires model { IsModel meant.now.sys meant.now.names }
     requires short { length bytes.now < 2 ^ 32 }
     ensures found { IfOk result (IsTheReport meant.now bytes.now) }
@@ -73,7 +74,7 @@ pub fn order_if_asked(
     alloc: Global,
     meant: &Elaborated,
     verdict: &Verdict,
-) -> Result<Order, Stop<()>>
+) -> Result<Order, Stop<Core>>
     requires model { IsModel meant.now.sys meant.now.names }
     ensures rises { IfOk result (λ order. IsAsked verdict.now
         → Rises (SortEdge meant.now.sys Infer) meant.now.sys.sig.sorts order.numbers) }

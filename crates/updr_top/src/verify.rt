@@ -13,6 +13,8 @@ use crate::options::{WEIGHT, finder};
 use fo_core::{Finder, Names, Order, Purpose};
 use fo_text::world_text;
 use std::alloc::{AllocError, Global};
+use std::thread::Threads;
+use up_core::Core;
 use up_verify::{Failure, Verified, verify};
 use updr_model::{Elaborated, OnStratified};
 use updr_told::{Status, Stop, Told};
@@ -61,7 +63,7 @@ fn failing_line(alloc: Global, names: &Names, failure: &Failure) -> Result<Vec<u
 }
 
 /// The end that tells a property that fails, with the world that shows it.
-fn failing(alloc: Global, meant: &Elaborated, failure: &Failure) -> Result<Told<()>, AllocError>
+fn failing(alloc: Global, meant: &Elaborated, failure: &Failure) -> Result<Told<Core>, AllocError>
     requires model { IsModel meant.now.sys meant.now.names }
     requires breaks { Breaks meant.now.sys failure.now.step failure.now.property failure.now.world }
     ensures { IfOk result (λ end. end
@@ -79,14 +81,14 @@ fn failing(alloc: Global, meant: &Elaborated, failure: &Failure) -> Result<Told<
 }
 
 /// The end that tells that the properties are inductive.
-fn inductive(alloc: Global) -> Result<Told<()>, AllocError>
+fn inductive(alloc: Global) -> Result<Told<Core>, AllocError>
     ensures { IfOk result (λ end. end ≡ printing Holds (codes "inductive\n") None) }
 {
     Ok(Told::printing(alloc, Status::Holds, b"inductive\n".to_vec(alloc)?))
 }
 
 /// The end that tells a query that is too heavy.
-fn too_heavy(alloc: Global, weight: u64) -> Result<Told<()>, AllocError>
+fn too_heavy(alloc: Global, weight: u64) -> Result<Told<Core>, AllocError>
     ensures { IfOk result (λ end. end ≡ printing Over (heavy_text weight) None) }
 {
     let line = format!(in alloc; "over verify {weight}\n")?;
@@ -99,7 +101,7 @@ fn verified<F: Finder>(
     meant: &Elaborated,
     order: &Order,
     finder: &mut F,
-) -> Result<Told<()>, AllocError>
+) -> Result<Told<Core>, AllocError>
     requires model { IsModel meant.now.sys meant.now.names }
     requires order { Rises (SortEdge meant.now.sys purpose.Verify)
         meant.now.sys.sig.sorts order.now.numbers }
@@ -117,7 +119,7 @@ fn verified<F: Finder>(
 /// Floyd, "Assigning Meanings to Programs", 1967), or which property is the first to fail.
 pub struct Verify;
 
-impl<R> OnStratified<R, ()> for Verify {
+impl OnStratified<Core> for Verify {
     ghost use Rattle.fo_core.specs.declared.order.Purpose.TheVariants as purpose;
     ghost use Rattle.updr_top.specs.Verify.{verify_form, verify_rows, verify_sound};
 
@@ -140,14 +142,14 @@ impl<R> OnStratified<R, ()> for Verify {
         Purpose::Verify
     }
 
-    fn run(
+    fn run<R: Threads + Sync>(
         _rt: &R,
         alloc: Global,
         job: &Job<'_>,
         meant: &Elaborated,
         order: &Order,
         _contents: &[Vec<u8>],
-    ) -> Result<Told<()>, Stop<()>> {
+    ) -> Result<Told<Core>, Stop<Core>> {
         let mut finder = finder(job.numbers[0]);
         Ok(verified(alloc, meant, order, &mut finder)?)
     }

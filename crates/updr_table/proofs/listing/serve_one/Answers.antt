@@ -23,8 +23,8 @@ returns-in_err-contents-in-Ok g c =
     (refused_first g.C.Course.command o words (form_of c.form.result) c.form.ensures (job_of c.in-Ok.job) c.in-Ok.ensures.found)
     c.in_err-contents-in-Ok.field-0.0 refused)
 
-pub run-requires : goal.run-requires
-run-requires g c =
+pub run-requires-clause-suits : goal.run-requires-clause-suits
+run-requires-clause-suits g c =
     let o = outside g.F.Files.contents g.F.Files.faults g.F.Files.refused c.args.files.now c.read_files.new.files in
     let words = map string_bytes c.args.words.now in
     let are = rw c.deref.ensures.value at c.in_ok-contents-in-Ok.ensures.contents in

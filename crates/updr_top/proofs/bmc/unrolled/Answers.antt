@@ -34,17 +34,17 @@ returns-in-Run g c =
     let limit = g.F.Finder.limit c.args.finder.now in
     let finds : FindsRun sys limit c.args.depth c.in-Run.world = record { steps = found.0; least = found.1; light = found.2 } in
     if_end c.unsafe_run.result _ _
-    (λ e is cs. inl (record { comes = has_run sys limit c.args.depth c.requires.model.system c.in-Run.world finds; bytes = _; left = None; says = (c.in-Run.world, finds, refl); is = is })) c.unsafe_run.ensures
+    (λ e is cs. inl (record { comes = has_run sys limit c.args.depth c.requires.model.system c.in-Run.world finds; bytes = _; left = None; says = (c.in-Run.world, finds, refl, refl); is = is })) c.unsafe_run.ensures
 
 pub returns-in-NoRun : goal.returns-in-NoRun
 returns-in-NoRun g c =
     let found = rw (c.in-NoRun.is) at c.in_ok-world.ensures.found in
     let sys = c.args.meant.now.sys in
     let limit = g.F.Finder.limit c.args.finder.now in
-    if_end c.reported.result _ _ (λ e is cs. inr (inl (record { comes = has_no_run sys limit c.args.depth found.0 found.1; bytes = _; left = None; says = refl; is = is }))) c.reported.ensures
+    if_end c.reported.result _ _ (λ e is cs. inr (inl (record { comes = has_no_run sys limit c.args.depth found.0 found.1; bytes = _; left = None; says = (refl, refl); is = is }))) c.reported.ensures
 
 pub returns-in-Over : goal.returns-in-Over
 returns-in-Over g c =
     let found = rw (c.in-Over.is) at c.in_ok-world.ensures.found in
     if_end c.reported-in-Over.result _ _
-    (λ e is cs. inr (inr (inl (record { comes = (c.in-Over.excess, found.1); bytes = _; left = None; says = (c.in-Over.excess, found.1, ap (λ (k : Kind). verdict_text c.args.meant.now (verdict.Over k c.in-Over.excess.weight)) found.0); is = is })))) c.reported-in-Over.ensures
+    (λ e is cs. inr (inr (inl (record { comes = (c.in-Over.excess, found.1); bytes = _; left = None; says = (c.in-Over.excess, found.1, ap (λ (k : Kind). verdict_text c.args.meant.now (verdict.Over k c.in-Over.excess.weight)) found.0, refl); is = is })))) c.reported-in-Over.ensures

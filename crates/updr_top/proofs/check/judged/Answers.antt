@@ -12,7 +12,7 @@ returns-in-Holds g c =
     let limit = g.F.Finder.limit c.args.finder.now in
     let judged = rw (c.in-Holds.is) at c.in_ok-judge.ensures.judged in
     if_end c.confirmed.result _ _
-    (λ e is cs. inl (record { comes = judged_confirmed sys limit told c.requires.fits judged; bytes = _; left = None; says = refl; is = is })) c.confirmed.ensures
+    (λ e is cs. inl (record { comes = judged_confirmed sys limit told c.requires.fits judged; bytes = _; left = None; says = (refl, refl); is = is })) c.confirmed.ensures
 
 pub returns-in-Wrong : goal.returns-in-Wrong
 returns-in-Wrong g c =
@@ -23,14 +23,14 @@ returns-in-Wrong g c =
     let judged = rw (c.in-Wrong.is) at c.in_ok-judge.ensures.judged in
     let at = judged_wrong_at sys limit told spot judged in
     if_end c.wrong.result _ _
-    (λ e is cs. inr (inl (record { comes = (spot, at); bytes = _; left = None; says = (spot, at, refl); is = is }))) c.wrong.ensures
+    (λ e is cs. inr (inl (record { comes = (spot, at); bytes = _; left = None; says = (spot, at, refl, refl); is = is }))) c.wrong.ensures
 
 pub returns-in-Over : goal.returns-in-Over
 returns-in-Over g c =
     let weight = c.in-Over.weight in
     let judged = rw (c.in-Over.is) at c.in_ok-judge.ensures.judged in
     if_end c.too_heavy.result _ _
-    (λ e is cs. inr (inr (inl (record { comes = (weight, judged); bytes = _; left = None; says = (weight, judged, refl); is = is })))) c.too_heavy.ensures
+    (λ e is cs. inr (inr (inl (record { comes = (weight, judged); bytes = _; left = None; says = (weight, judged, refl, refl); is = is })))) c.too_heavy.ensures
 
 pub returns-in-Nothing : goal.returns-in-Nothing
 returns-in-Nothing g c =
@@ -39,4 +39,4 @@ returns-in-Nothing g c =
     let limit = g.F.Finder.limit c.args.finder.now in
     let judged = rw (c.in-Nothing.is) at c.in_ok-judge.ensures.judged in
     if_end c.nothing.result _ _
-    (λ e is cs. inr (inr (inr (inl (record { comes = judged_nothing sys limit told judged; bytes = _; left = None; says = refl; is = is }))))) c.nothing.ensures
+    (λ e is cs. inr (inr (inr (inl (record { comes = judged_nothing sys limit told judged; bytes = _; left = None; says = (refl, refl); is = is }))))) c.nothing.ensures

@@ -14,13 +14,13 @@ use Rattle.updr_model.proofs.on_model.OverModelCourse.run.Goals as goal
 
 pub content-requires : goal.content-requires
 content-requires g c =
-    let all = c.requires.all_read in
+    let all = c.requires.suits.all_read in
     let some = g.met.W.OnModel.sound.model in
     let long = length-map c.args.contents.now (λ b. b.items) in
     omega (arith, all, some, long)
 
 pub read_model-requires : goal.read_model-requires
-read_model-requires g c = rw c.content.ensures (short_content (contents_of c.args.contents.now) c.requires.short)
+read_model-requires g c = rw c.content.ensures (short_content (contents_of c.args.contents.now) c.requires.suits.short)
 
 pub returns-in_err-meant : goal.returns-in_err-meant
 returns-in_err-meant g c =

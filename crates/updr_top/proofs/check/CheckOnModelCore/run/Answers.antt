@@ -5,6 +5,7 @@ use Rattle.std.proofs.lemmas.Result.{err_from_is_err_and}
 use Rattle.fo_core.specs.declared.order.Order.{Order}
 use Rattle.fo_core.specs.declared.order.Purpose.TheVariants.{Infer}
 use Rattle.up_claims.specs.declared.report.Report.{Report}
+use Rattle.up_core.specs.View.{CoreView}
 use Rattle.updr_told.specs.Ends.{End}
 use Rattle.updr_table.specs.Rows.{content_at, contents_of}
 use Rattle.updr_table.proofs.Serving.{refused_ends}
@@ -16,7 +17,7 @@ use Rattle.updr_top.specs.Reading.{IsTheReport, RefusesReport}
 use Rattle.updr_top.specs.Reported.{IsAsked, if_ordered}
 use Rattle.updr_top.proofs.Judgeable.{can_judge}
 use Rattle.updr_top.proofs.ReportEnds.{both_refused, judged_ends, short_second, unordered_ends, unread_ends}
-use Rattle.updr_top.proofs.check.CheckOnModelUnit.run.Goals as goal
+use Rattle.updr_top.proofs.check.CheckOnModelCore.run.Goals as goal
 
 pub returns-in_err-report : goal.returns-in_err-report
 returns-in_err-report g c =
@@ -34,7 +35,7 @@ returns-in_err-order g c =
     let rows = judge_table (check_limit (job_of c.args.job.now)) in
     let report = c.in_ok-report.report in
     let is : IsTheReport given.meant (content_at given.contents 1) report = rw c.content.ensures at c.in_ok-report.ensures.found in
-    let both = both_refused Order c.in_err-order.field-0.0 (λ (end : End (Unit {0})). IsAsked report.verdict) (RefusesSystem Infer given.meant.sys given.meant.names) c.in_err-order.ensures.asked c.in_err-order.ensures.refused in
+    let both = both_refused Order c.in_err-order.field-0.0 (λ (end : End CoreView). IsAsked report.verdict) (RefusesSystem Infer given.meant.sys given.meant.names) c.in_err-order.ensures.asked c.in_err-order.ensures.refused in
     rw (p.1, p.2) (refused_ends Order (λ end. IsAsked report.verdict × RefusesSystem Infer given.meant.sys given.meant.names end) _
     (λ end h. unordered_ends given report is rows end h.0 h.1) c.in_err-order.field-0.0 both)
 
