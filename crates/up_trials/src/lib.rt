@@ -37,6 +37,8 @@ mod propagation;
 #[cfg(test)]
 mod pushing;
 #[cfg(test)]
+mod rounds;
+#[cfg(test)]
 mod skolem_forms;
 #[cfg(test)]
 mod structures;
