@@ -8,8 +8,9 @@
 import re
 import sys
 import textwrap
-from dataclasses import dataclass, field
 from pathlib import Path
+
+from case_files import read_cases
 
 ROOT = Path(__file__).resolve().parent.parent
 CASES = ROOT / "crates/updr_rows/data/faults.cases"
@@ -31,20 +32,6 @@ program more memory, or a smaller `--weight`.
 """
 
 
-@dataclass
-class Case:
-    """A case of the file: its words, the text of its files, and what is wanted."""
-
-    name: str
-    says: str
-    repair: str
-    words: str = ""
-    status: str = ""
-    files: dict = field(default_factory=dict)
-    err: str = ""
-    notes: list = field(default_factory=list)
-
-
 def note_texts(lines):
     """The texts that the comments before a case begin with `says` and `repair`."""
     texts = {"says": "", "repair": ""}
@@ -58,37 +45,6 @@ def note_texts(lines):
         elif current:
             texts[current] += " " + text
     return texts
-
-
-def read_cases(text):
-    """The cases of the file, in order. Contents stay as they are written."""
-    cases, comments, into = [], [], None
-    for line in text.splitlines():
-        if line.startswith("#"):
-            comments.append(line)
-        elif line.startswith("case "):
-            notes = note_texts(comments)
-            cases.append(Case(line[5:], notes["says"], notes["repair"]))
-            comments, into = [], None
-        elif not line or not cases:
-            continue
-        elif line.startswith("file "):
-            into = cases[-1].files.setdefault(line[5:], [])
-        elif line == "err":
-            into = "err"
-        elif line.startswith(("|", ":", "times ")):
-            if into == "err":
-                cases[-1].err = line[1:]
-            elif into is not None:
-                into.append(line)
-        else:
-            word, _, rest = line.partition(" ")
-            into = None
-            if word in ("words", "status"):
-                setattr(cases[-1], word, rest)
-            elif word in ("room", "fail"):
-                cases[-1].notes.append(line)
-    return cases
 
 
 def shown(content):
@@ -112,16 +68,22 @@ def wrapped(text):
     return textwrap.wrap(text, 100, break_long_words=False, break_on_hyphens=False)
 
 
+def line_of(case):
+    """The line that the case wants on standard error."""
+    return case.err[0][1:] if case.err else ""
+
+
 def entry(case, mended):
-    lines = [f"## `{case.err}`", "", *wrapped(f"Status {case.status}. {case.says}"), ""]
-    if case.notes:
+    notes = note_texts(case.comments)
+    lines = [f"## `{line_of(case)}`", "", *wrapped(f"Status {case.status}. {notes['says']}"), ""]
+    if any(note.startswith(("room", "fail")) for note in case.notes):
         lines += ["(The case lets standard output take 4 bytes.)", ""]
     lines += [f"`updr {case.words}`" + (", where A is" if "A" in case.files else ""), ""]
     if "A" in case.files:
         lines += [*block(case.files["A"]), ""]
     if "R" in case.files:
         lines += ["and R is", "", *block(case.files["R"]), ""]
-    lines += wrapped(f"**Mend it.** {case.repair}")
+    lines += wrapped(f"**Mend it.** {notes['repair']}")
     if mended and mended.words == case.words:
         lines += ["", *block(mended.files["A"])]
     elif mended:
@@ -130,10 +92,10 @@ def entry(case, mended):
 
 
 def page():
-    cases = read_cases(CASES.read_text())
+    cases, _ = read_cases(CASES.read_text())
     mended = {c.name[8:]: c for c in cases if c.name.startswith("mended: ")}
     faults = [c for c in cases if c.name.startswith("fault: ")]
-    text = HEAD + "".join(f"| {c.status} | `{c.err}` |\n" for c in faults) + "\n"
+    text = HEAD + "".join(f"| {c.status} | `{line_of(c)}` |\n" for c in faults) + "\n"
     for case in faults:
         text += "\n".join(entry(case, mended.get(case.name[7:]))) + "\n"
     return text.rstrip("\n") + "\n"
