@@ -16,7 +16,8 @@ PATH = re.compile(r"(?<![\w./-])((?:docs|crates|examples|bench|tools|\.ci)/[\w./
 NAME = re.compile(r"(?<![\w./-])([\w-]+\.(?:md|pyv|report|cases|sh|py))(?![\w/])")
 PLACES = ["", "docs", "examples", "crates/updr_rows/data", "bench", "tools"]
 # Names that stand for something of the reader's own, or a file that is made.
-OWN = {"lock.pyv", "m.pyv", "my.report", "lock-server-bare.pyv", "run.report"}
+OWN = {"lock.pyv", "m.pyv", "my.report", "lock-server-bare.pyv", "lock-server-one.pyv",
+       "lock-server-four.pyv", "run.report"}
 
 
 def exists(name, places):
