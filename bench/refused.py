@@ -108,7 +108,6 @@ def main():
             ["bmc", GRAB],
             ["updr", lock, "--workers", "1"],
             ["updr", GRAB, "--workers", "1"],
-            ["demo", "1"],
         ]
         wrong = [it for words in commands for it in try_command([program, *words], library, folder, pool)]
     sys.exit(1 if wrong else 0)
