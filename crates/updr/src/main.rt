@@ -1,4 +1,4 @@
-//! `updr`: judges, verifies and unrolls models of distributed protocols.
+//! `updr`: judges, verifies, unrolls and searches models of distributed protocols.
 #![tactic(auto)]
 
 use pv_base::{RealErr, RealFiles, RealOut};
@@ -6,9 +6,14 @@ use std::alloc::AllocError;
 use std::env;
 use std::io::ErrorKind;
 use std::process::ExitCode;
+use std::thread::Builder;
 use updr_top::{run_plain, tell_out_of_memory};
 
-/// The words behind the program's name, or none where they are no text.
+/// How many bytes of stack the program has. Formulas are walked recursively, and a clause of a
+/// report of the greatest length may bind more than 100,000 variables, each a level of its formula.
+const STACK_BYTES: usize = 1 << 30;
+
+/// The words after the program's name, or none where they are no text.
 fn words_of(rt: &HostRuntime) -> Result<Vec<String>, AllocError> {
     let mut arguments = match env::args(rt) {
         Ok(arguments) => arguments,
@@ -21,13 +26,21 @@ fn words_of(rt: &HostRuntime) -> Result<Vec<String>, AllocError> {
     arguments.collect(rt.alloc())
 }
 
+/// Serves the words on a thread with much stack; where none can be started, on this one.
 fn main(rt: HostRuntime) -> ExitCode {
-    let mut files = RealFiles::new(&rt);
-    let mut out = RealOut::new(rt.stdout());
-    let mut err = RealErr::new(rt.stderr());
-    let ending = match words_of(&rt) {
-        Ok(words) => run_plain(&rt, rt.alloc(), words, &mut files, &mut out, &mut err),
-        Err(AllocError) => tell_out_of_memory(&mut out, &mut err),
+    let serve = move || -> u8 {
+        let mut files = RealFiles::new(&rt);
+        let mut out = RealOut::new(rt.stdout());
+        let mut err = RealErr::new(rt.stderr());
+        let ending = match words_of(&rt) {
+            Ok(words) => run_plain(&rt, rt.alloc(), words, &mut files, &mut out, &mut err),
+            Err(AllocError) => tell_out_of_memory(&mut out, &mut err),
+        };
+        ending.status
     };
-    ExitCode::from(ending.status)
+    let thread = Builder::new().stack_size(STACK_BYTES);
+    ExitCode::from(match thread.spawn(&rt, serve) {
+        Ok(started) => started.join(&rt),
+        Err(_) => serve(),
+    })
 }
