@@ -6,14 +6,13 @@ use Rattle.std.proofs.lemmas.Bool.{cases_lt}
 use Rattle.std.proofs.lemmas.Option.{slice_get-get_or}
 use Rattle.fo_core.specs.declared.system.System.{System}
 use Rattle.up_machine.specs.declared.limits.Limits.{Limits}
-use Rattle.up_machine.specs.declared.end.End.TheVariants as N
 use Rattle.up_machine.specs.declared.job.Job.{Job}
 use Rattle.up_machine.specs.declared.job.Job.TheVariants as J
 use Rattle.up_machine.specs.declared.job.Task.TheVariants as T
 use Rattle.up_machine.specs.declared.event.Event.{Event}
 use Rattle.up_machine.specs.declared.event.Event.TheVariants as E
 use Rattle.up_machine.specs.Machine.{Ready, Out, Obligation, Given, Held, Machine, held_by}
-use Rattle.up_machine.specs.Replay.{with_status, set_status, given_work, given_push, given_trace, given_for, obligations_after, released, jobs_after, is_productive, count_if, happens, run}
+use Rattle.up_machine.specs.Replay.{with_status, set_status, given_work, given_push, given_trace, given_for, obligations_after, jobs_after, is_productive, count_if, happens, run}
 use Rattle.up_machine.specs.Due.{IsFirst, IsRooted, IsFirstRooted, IsTrace, TraceIsOut, IsDue, job_of}
 use Rattle.up_machine.specs.Rounds.{IsReport, Takes}
 use Rattle.up_machine.specs.Sound.{Each}
@@ -21,7 +20,7 @@ use Rattle.up_machine.proofs.Dues.{due_work, due_push}
 use Rattle.up_machine.proofs.Holding.{held-at, others, not_own}
 use Rattle.up_machine.proofs.Lists.{some_injective, mapped_some, Each-nil, get-append, get-push, IsPushed, get-changed, get-change, IsChanged, get-filter, two_places, any-of_place}
 use Rattle.up_rounds.specs.OneRound.{AreTakes, AreReports, IsAtRest, HaveReported}
-use Rattle.up_rounds.proofs.Reporting.{holder}
+use Rattle.up_seats.proofs.Reporting.{holder, report_jobs}
 use Rattle.up_rounds.proofs.Resting.{trace_out}
 
 -- 1. Only seat 0 takes a trace.
@@ -164,25 +163,6 @@ module _ (sys : System) (limits : Limits) where
 
   -- 3. What jobs are out after the reports.
 
-  report_jobs : (m : Machine) (seat : ℕ) (e : Event) → IsReport sys limits m seat e → (happens m e).jobs ≡ released seat m.jobs
-  report_jobs m seat (E.Take w job) r = absurd r.kind
-  report_jobs m seat (E.Advance w) r = absurd r.kind
-  report_jobs m seat (E.Retire w gone by) r = absurd r.kind
-  report_jobs m seat (E.Close w (N.Safe i)) r = absurd r.kind
-  report_jobs m seat (E.Close w N.Bounded) r = absurd r.kind
-  report_jobs m seat (E.Close w N.Spent) r = absurd r.kind
-  report_jobs m seat (E.Close w (N.Unsafe x)) r = ap (λ v. released v m.jobs) r.by_seat
-  report_jobs m seat (E.Close w N.NoUniversal) r = ap (λ v. released v m.jobs) r.by_seat
-  report_jobs m seat (E.Close w (N.Over kind x)) r = ap (λ v. released v m.jobs) r.by_seat
-  report_jobs m seat (E.Seed w s) r = ap (λ v. released v m.jobs) r.by_seat
-  report_jobs m seat (E.Return w y) r = ap (λ v. released v m.jobs) r.by_seat
-  report_jobs m seat (E.Learn w c) r = ap (λ v. released v m.jobs) r.by_seat
-  report_jobs m seat (E.Before w o) r = ap (λ v. released v m.jobs) r.by_seat
-  report_jobs m seat (E.Drop w c) r = ap (λ v. released v m.jobs) r.by_seat
-  report_jobs m seat (E.Raise w) r = ap (λ v. released v m.jobs) r.by_seat
-  report_jobs m seat (E.Fail w p) r = ap (λ v. released v m.jobs) r.by_seat
-  report_jobs m seat (E.Secure w) r = ap (λ v. released v m.jobs) r.by_seat
-
   -- a job that is out was so before, and is that of a later seat
   record WasOut (js : List Held) (seat n : ℕ) (h : Held) : Type 0 where
     place : ℕ
@@ -193,7 +173,7 @@ module _ (sys : System) (limits : Limits) where
   was_out m seat [] k h r e = record { place = k; there = e; later = λ le. omega (arith, le) }
   was_out m seat (x ∷ rs) k h r e =
       let w = was_out (happens m x) (suc seat) rs k h r.1 e in
-      let f = get-filter (others seat) m.jobs w.place h (subst (λ js. slice_get js w.place ≡ Some h) (report_jobs m seat x r.0) w.there) in
+      let f = get-filter (others seat) m.jobs w.place h (subst (λ js. slice_get js w.place ≡ Some h) (report_jobs sys limits m seat x r.0) w.there) in
       record { place = f.0; there = f.1; later = λ le. more w f.2 le (cases_lt seat h.worker) }
     where
       more : WasOut (happens m x).jobs (suc seat) (length rs) h → others seat h ≡ true → seat ≤ h.worker → (seat < h.worker) ⊎ (h.worker ≤ seat) → seat + suc (length rs) ≤ h.worker

@@ -13,8 +13,9 @@ use Rattle.up_machine.proofs.Lists.{Each-cons, Each-nil}
 use Rattle.up_jobs.specs.declared.solved.Solved.{Solved}
 use Rattle.up_jobs.specs.Solving.{CanSolve, IsBriefOf, IsSolved}
 use Rattle.up_core.specs.View.{CoreView, now}
-use Rattle.up_rounds.specs.Asking.{AreBriefed, AreSolved, HaveAllReported, IsAnswered, IsBriefed, IsReported, MayStop}
-use Rattle.up_rounds.specs.Making.{HasMade}
+use Rattle.up_seats.specs.Seats.{IsAnswered, IsBriefed, IsReported, MayStop}
+use Rattle.up_rounds.specs.Asking.{AreBriefed, AreSolved, HaveAllReported}
+use Rattle.up_seats.specs.Making.{HasMade}
 use Rattle.up_rounds.specs.OneRound.{AreReports}
 
 -- what has been made of the machine in code is what the events make of the machine

@@ -15,11 +15,12 @@ use Rattle.up_machine.proofs.Holding.{run-held}
 use Rattle.up_machine.proofs.Lists.{IsPushed, get-push, get-lt, Each-cons, Each-nil}
 use Rattle.up_jobs.specs.Solving.{CanSolve, IsBriefOf}
 use Rattle.up_core.specs.View.{CoreView, now}
-use Rattle.up_rounds.specs.Asking.{HaveTaken, IsBriefed}
-use Rattle.up_rounds.specs.Making.{HasMade}
+use Rattle.up_seats.specs.Seats.{IsBriefed}
+use Rattle.up_rounds.specs.Asking.{HaveTaken}
+use Rattle.up_seats.specs.Making.{HasMade}
 use Rattle.up_rounds.specs.OneRound.{AreTakes, IsAtRest}
 use Rattle.up_rounds.specs.Taking.{AreTaking, HasTakenNone, HasTakenOne, IsFreeFor}
-use Rattle.up_rounds.proofs.Made.{made_nothing, made_before, made_both, made_now, moved, moved_back}
+use Rattle.up_seats.proofs.Made.{made_nothing, made_before, made_both, made_now, moved, moved_back}
 use Rattle.up_rounds.proofs.Resting.{take_legal}
 
 -- a seat keeps its job and its brief while others make events

@@ -18,9 +18,9 @@ use Rattle.up_machine.proofs.Lists.{none_is_some}
 use Rattle.up_machine.proofs.OneDue.{due_one}
 use Rattle.up_core.specs.View.{CoreView, MayRetire, now, with_event}
 use Rattle.up_core.proofs.NextCores.{due-open}
-use Rattle.up_rounds.specs.Making.{HasMade}
+use Rattle.up_seats.specs.Making.{HasMade}
 use Rattle.up_rounds.specs.Settling.{HasRetired, HasSettled, IsForJobs, IsResting}
-use Rattle.up_rounds.proofs.Made.{IsRoomier, made_room, made_event, made_after}
+use Rattle.up_seats.proofs.Made.{IsRoomier, made_room, made_event, made_after}
 use Rattle.up_rounds.proofs.OneCourse.{differ_kind}
 use Rattle.up_rounds.proofs.Resting.{nobody_waits}
 

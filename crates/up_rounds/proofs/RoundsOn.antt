@@ -20,18 +20,19 @@ use Rattle.up_jobs.specs.Solving.{CanSolve}
 use Rattle.up_core.specs.View.{CoreView, now}
 use Rattle.up_rounds.specs.declared.settling.Begun.{Begun}
 use Rattle.up_rounds.specs.declared.settling.Begun.TheVariants as B
-use Rattle.up_rounds.specs.Asking.{HaveAllReported, HaveTaken, MayStop}
+use Rattle.up_seats.specs.Seats.{MayStop}
+use Rattle.up_rounds.specs.Asking.{HaveAllReported, HaveTaken}
 use Rattle.up_rounds.specs.Coming.{left_of}
 use Rattle.up_rounds.specs.Courses.{IsCourse, IsRun}
 use Rattle.up_rounds.specs.Going.{HasGoneOn, HasRun, HasTurned, IsOfSame, IsUnderWay, left_in, left_until}
-use Rattle.up_rounds.specs.Making.{HasMade}
+use Rattle.up_seats.specs.Making.{HasMade}
 use Rattle.up_rounds.specs.OneRound.{AreReports, AreTakes, IsAtRest, IsRest, IsRound, AreRounds, none, one_more}
 use Rattle.up_rounds.specs.Settling.{HasBegun, HasSettled, IsForJobs, IsResting}
 use Rattle.up_rounds.proofs.AllTakes.{takes_within}
 use Rattle.up_rounds.proofs.FirstDue.{job_open}
 use Rattle.up_rounds.proofs.JobRounds.{AreJobsDone, CanStop, IsJobsRound, jobs_round}
 use Rattle.up_rounds.proofs.Joining.{joined}
-use Rattle.up_rounds.proofs.Made.{made_both, made_now, moved, moved_back, moved_on}
+use Rattle.up_seats.proofs.Made.{made_both, made_now, moved, moved_back, moved_on}
 use Rattle.up_rounds.proofs.OneCourse.{no_begin}
 use Rattle.up_rounds.proofs.Resting.{rest_start, rest_advance, rest_retire}
 

@@ -4,7 +4,7 @@ use Rattle.up_machine.specs.declared.end.End.{End}
 use Rattle.up_machine.specs.declared.event.Event.{Event}
 use Rattle.up_core.specs.View.{CoreView, now}
 use Rattle.up_rounds.specs.Coming.{left_of}
-use Rattle.up_rounds.specs.Making.{HasMade}
+use Rattle.up_seats.specs.Making.{HasMade}
 use Rattle.up_rounds.specs.OneRound.{AreRounds, IsRound}
 use Rattle.up_rounds.specs.Settling.{HasEnded, IsResting}
 

@@ -3,9 +3,6 @@ pub mod Coming
 pub mod Courses
 pub mod Crew
 pub mod Going
-pub mod Making
 pub mod OneRound
 pub mod Settling
-pub mod Sound
 pub mod Taking
-pub mod Telling

@@ -9,7 +9,7 @@ use Rattle.up_machine.specs.Rounds.{Retires, Settles}
 use Rattle.up_core.specs.View.{CoreView, now}
 use Rattle.up_rounds.specs.declared.settling.Begun.{Begun}
 use Rattle.up_rounds.specs.declared.settling.Begun.TheVariants as B
-use Rattle.up_rounds.specs.Making.{HasMade}
+use Rattle.up_seats.specs.Making.{HasMade}
 use Rattle.up_rounds.specs.OneRound.{IsAtRest}
 
 -- the run has ended

@@ -8,8 +8,9 @@ use Rattle.up_machine.specs.Due.{IsDue}
 use Rattle.up_machine.specs.Machine.{held_by}
 use Rattle.up_machine.specs.Rounds.{Takes}
 use Rattle.up_core.specs.View.{CoreView, now}
-use Rattle.up_rounds.specs.Asking.{AreBriefed, IsBriefed}
-use Rattle.up_rounds.specs.Making.{HasMade}
+use Rattle.up_seats.specs.Seats.{IsBriefed}
+use Rattle.up_rounds.specs.Asking.{AreBriefed}
+use Rattle.up_seats.specs.Making.{HasMade}
 use Rattle.up_rounds.specs.OneRound.{AreTakes}
 
 -- where a job is due the seat has none yet

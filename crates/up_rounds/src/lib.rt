@@ -5,16 +5,12 @@
 mod coming_laws;
 mod crew;
 mod laws;
-mod looking;
-mod pushing;
 mod reports;
 mod rest_laws;
 mod rounds;
 mod run_laws;
 mod settling;
 mod taking;
-mod tracing;
-mod working;
 
 pub use coming_laws::{jobs_come_to_an_end, retiring_comes_to_an_end, settling_comes_to_an_end};
 pub use laws::{

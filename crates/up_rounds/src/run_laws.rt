@@ -8,7 +8,7 @@ ghost use Rattle.fo_core.specs.Sorted.{IsSystem};
 ghost use Rattle.up_core.specs.View.{CoreView};
 ghost use Rattle.up_machine.specs.declared.limits.Limits.{Limits};
 ghost use Rattle.up_rounds.specs.Courses.{AreAlike, IsRun};
-ghost use Rattle.up_rounds.specs.Sound.{HasSoundFrames, IsSoundRun, IsWhole, TellsTruth};
+ghost use Rattle.up_seats.specs.Sound.{HasSoundFrames, IsSoundRun, IsWhole, TellsTruth};
 
 /// Each event of a run is legal when it comes, and the last one is a Close.
 pub fn runs_are_legal_and_closed()

@@ -1,37 +1,15 @@
 //! The seats of a round take jobs.
 
-ghost use Rattle.std.specs.Prelude.{◌≡◌, ◌+◌, ◌<◌, ◌≤◌, ◌^◌, IfOk, MatchOption, length};
-ghost use Rattle.up_machine.specs.declared.event.Event.TheVariants.{Take};
-ghost use Rattle.up_machine.specs.Legal.{MayTake};
-ghost use Rattle.up_core.specs.View.{HasVariablesForJob, now, with_event};
-ghost use Rattle.up_rounds.specs.Asking.{HaveTaken, IsBriefed};
+ghost use Rattle.std.specs.Prelude.{◌<◌, IfOk, MatchOption};
+ghost use Rattle.up_core.specs.View.{now};
+ghost use Rattle.up_rounds.specs.Asking.{HaveTaken};
 ghost use Rattle.up_rounds.specs.OneRound.{IsAtRest};
 ghost use Rattle.up_rounds.specs.Taking.{HasTakenNone, HasTakenOne, IsFreeFor};
 
 use std::alloc::{AllocError, Global};
 use up_core::Core;
-use up_machine::{Brief, Job, Task};
-
-/// That a number has 32 bits.
-fn is_narrow(_number: u32)
-    ensures { _number < 2 ^ 32 }
-{}
-
-/// The seat takes the job, and is given its brief.
-fn take_job(alloc: Global, core: &mut Core, seat: u32, job: Job) -> Result<Brief, AllocError>
-    requires room { length (now core.old).jobs + 2 ≤ core.old.spare }
-    requires variables { HasVariablesForJob core.old job }
-    requires may { MayTake core.old.sys core.old.limits (now core.old) seat job }
-    ensures made { core.new ≡ with_event core.old (Take seat job) }
-    ensures briefed { IfOk result (λ brief. IsBriefed core.new seat brief) }
-{
-    // A state has no more elements than there is room for variables.
-    is_narrow(core.variables());
-    core.take(seat, job);
-    // The history is legal, so what is given fits the system.
-    core.stays_sound();
-    core.brief(alloc, seat)
-}
+use up_machine::{Brief, Task};
+use up_seats::take_job;
 
 /// The seat takes the job that is due, if one is, and is given its brief.
 fn take_next(alloc: Global, core: &mut Core, seat: u32) -> Result<Option<Brief>, AllocError>

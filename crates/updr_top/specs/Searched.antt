@@ -16,7 +16,7 @@ use Rattle.up_machine.specs.Rounds.{Rounds}
 use Rattle.up_machine.specs.Told.{HoldsShortest, Told}
 use Rattle.up_core.specs.View.{CoreView}
 use Rattle.up_report.specs.Texts.{report_text}
-use Rattle.up_rounds.specs.Sound.{IsSoundRun}
+use Rattle.up_seats.specs.Sound.{IsSoundRun}
 use Rattle.updr_told.specs.Statuses.{number_of}
 use Rattle.updr_told.specs.Telling.{TakesAll}
 use Rattle.updr_told.specs.declared.status.Status.{Status}

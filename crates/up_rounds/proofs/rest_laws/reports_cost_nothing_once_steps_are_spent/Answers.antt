@@ -1,4 +1,4 @@
-use Rattle.up_rounds.proofs.Reporting.{free_reports}
+use Rattle.up_seats.proofs.Reporting.{free_reports}
 use Rattle.up_rounds.proofs.rest_laws.reports_cost_nothing_once_steps_are_spent.Goals as goal
 
 pub returns : goal.returns

@@ -1,0 +1,13 @@
+pub mod Costly
+pub mod FewElements
+pub mod Frontiers
+pub mod LookReports
+pub mod Made
+pub mod PushReports
+pub mod Reporting
+pub mod SoundCore
+pub mod SoundHistories
+pub mod TakenJobs
+pub mod Told
+pub mod TraceReports
+pub mod WorkReports

@@ -1,0 +1,4 @@
+pub mod Making
+pub mod Seats
+pub mod Sound
+pub mod Telling
