@@ -3,6 +3,7 @@ pub mod Briefing
 pub mod Choice
 pub mod Covering
 pub mod Holding
+pub mod Keeping
 pub mod Known
 pub mod Lapsing
 pub mod Listing

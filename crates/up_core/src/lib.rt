@@ -9,6 +9,7 @@ mod covering;
 mod events;
 mod frames;
 mod kept;
+mod kept_value;
 mod lapsing;
 mod learning;
 mod leaves;
@@ -26,3 +27,4 @@ mod worlds;
 
 pub use brief_laws::takes_keep_briefs;
 pub use kept::Core;
+pub use kept_value::Basis;
