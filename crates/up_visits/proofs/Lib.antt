@@ -1,0 +1,4 @@
+pub mod Acting
+pub mod Entering
+pub mod Leaving
+pub mod OthersEvents

@@ -1,0 +1,3 @@
+pub mod GivingUp
+pub mod Passes
+pub mod Visits
