@@ -15,7 +15,7 @@ use Rattle.updr_model.specs.Cycles.{RefusesSystem, unstratified_words}
 use Rattle.updr_model.specs.Faults.{Telling, lex_telling, parse_telling, sort_telling}
 use Rattle.updr_model.specs.OneFault.{status_or}
 use Rattle.updr_model.specs.OneMeaning.{lex_status, sort_status, told_status}
-use Rattle.updr_model.specs.OnModel.{Given, MeansGiven, cycle_row, fault_rows, if_stratified, over_model, IsStratifiedGiven}
+use Rattle.updr_model.specs.OnModel.{Given, MeansGiven, cycle_row, fault_rows, if_stratified, over_model, over_text, IsStratifiedGiven}
 use Rattle.updr_model.specs.Texts.{IsFault, of_tokens, of_tree, of_meaning, RefusesText, words_at}
 
 -- a content is short, also where there is none
@@ -54,6 +54,10 @@ module _ {L : Type 0} where
 
   pub given_ends : (contents : Contents) (g : Given) → MeansGiven contents g → (rows : List (Row Given L)) (e : End L) → Ends rows g e → Ends (over_model rows) contents e
   given_ends contents g means rows e h = meaning_ends MeansGiven contents fault_rows g means rows e h
+
+  -- a text that is made ends as one that was read
+  pub made_ends : (text : List ℕ) (contents : Contents) (rows : List (Row Given L)) (e : End L) → Ends (over_model rows) (text ∷ []) e → Ends (over_text text rows) contents e
+  made_ends text contents rows e h = meaning_ends (λ (x : Contents) (made : Contents). made ≡ text ∷ []) contents [] (text ∷ []) refl (over_model rows) e h
 
   -- so does a system that isn't stratified
   pub cycle_ends : (p : Purpose) (g : Given) (rows : List (Row Given L)) (e : End L) → RefusesSystem p g.meant.sys g.meant.names e → Ends (if_stratified p rows) g e

@@ -10,7 +10,7 @@ use Rattle.updr_words.specs.Forms.{Form, IsSimple}
 use Rattle.updr_words.specs.Jobs.{Job}
 use Rattle.updr_table.specs.Commands.{Command}
 use Rattle.updr_table.specs.Rows.{AtMostOne, Contents, Row, content_at, is_table}
-use Rattle.updr_table.specs.Stages.{refused_else}
+use Rattle.updr_table.specs.Stages.{refused_else, staged}
 use Rattle.updr_model.specs.Cycles.{unstratified_words}
 use Rattle.updr_model.specs.Faults.{Telling}
 use Rattle.updr_model.specs.Texts.{IsFault, IsModel, MeansText, words_at}
@@ -79,3 +79,9 @@ pub record IsSoundStratified {L : Type 0} (purpose : Purpose) (form : Form) (row
   pub model : 1 ≤ length form.files
   pub table : (job : Job) → is_table (over_model (if_stratified purpose (rows job))) ≡ true
   pub exclusive : (job : Job) (g : Given) → IsModel g.meant.sys g.meant.names → AtMostOne (rows job) g
+
+-- ---- a text that a command makes, in place of a file
+
+-- the rows over the system that this text means, whatever was read
+abbrev pub over_text : {L : Type 0} → List ℕ → List (Row Given L) → List (Row Contents L)
+over_text text rows = staged (λ contents made. made ≡ text ∷ []) (over_model rows)

@@ -1,5 +1,5 @@
 -- The rows of commands over a model exclude each other.
-use Rattle.std.proofs.Common.{◌≡◌, ◌∙◌, List, [], ◌∷◌, sym, ap, ap₂, subst}
+use Rattle.std.proofs.Common.{◌≡◌, ◌∙◌, ℕ, List, [], ◌∷◌, sym, ap, ap₂, subst}
 use Rattle.fo_core.specs.declared.names.Names.{Names}
 use Rattle.fo_core.specs.declared.order.Purpose.{Purpose}
 use Rattle.fo_core.specs.declared.system.System.{System}
@@ -15,7 +15,7 @@ use Rattle.updr_table.specs.Stages.{IsStage, ComeOnlyIfNone}
 use Rattle.updr_table.proofs.Staging.{stage_one}
 use Rattle.updr_model.specs.Faults.{Telling}
 use Rattle.updr_model.specs.OneMeaning.{one_status, no_fault, one_meaning, is_model}
-use Rattle.updr_model.specs.OnModel.{Given, MeansGiven, fault_row, fault_rows, over_model, model_command, IsSoundOnModel, cycle_row, IsStratifiedGiven, if_stratified, IsSoundStratified}
+use Rattle.updr_model.specs.OnModel.{Given, MeansGiven, fault_row, fault_rows, over_model, model_command, IsSoundOnModel, cycle_row, IsStratifiedGiven, if_stratified, IsSoundStratified, over_text}
 use Rattle.updr_model.specs.Texts.{IsFault, IsModel}
 
 -- ---- the stage that reads a model
@@ -47,11 +47,15 @@ reads_model {L = L} = record { one = one_given; exclusive = exclusive; apart = �
     none : (x : Contents) (s : Status) → (fault_row {L = L} s).comes x → (g : Given) → MeansGiven x g → ⊥
     none x s (t, f, is) g means = no_fault (content_at x 0) g.meant.sys g.meant.names means.text t f
 
+-- at most one row comes over a model, where at most one does over each system that a text means
+pub one_on_model : {L : Type 0} (rows : List (Row Given L)) → ((g : Given) → IsModel g.meant.sys g.meant.names → AtMostOne rows g) → (x : Contents) → AtMostOne (over_model rows) x
+one_on_model rows one x = stage_one fault_rows MeansGiven reads_model rows x (λ g means. one g (is_model (content_at x 0) g.meant.sys g.meant.names means.text))
+
 pub sound_model : {L : Type 0} (form : Form) (rows : Job → List (Row Given L)) → IsSoundOnModel form rows → IsSound (model_command form rows)
 sound_model form rows sound = record {
   simple = sound.simple;
   table = sound.table;
-  exclusive = λ job x. stage_one fault_rows MeansGiven reads_model (rows job) x (λ g means. sound.exclusive job g (is_model (content_at x 0) g.meant.sys g.meant.names means.text));
+  exclusive = λ job. one_on_model (rows job) (sound.exclusive job);
 }
 
 -- ---- the stage that asks whether the system is stratified
@@ -63,13 +67,25 @@ asks_order purpose = record {
   apart = λ x. ((λ none a p. none p.stratified), tt);
 }
 
+-- nor of a system that has to be stratified
+pub one_stratified : {L : Type 0} (purpose : Purpose) (rows : List (Row Given L)) → ((g : Given) → IsModel g.meant.sys g.meant.names → AtMostOne rows g) → (g : Given) → IsModel g.meant.sys g.meant.names → AtMostOne (if_stratified purpose rows) g
+one_stratified purpose rows one g is = stage_one (cycle_row purpose ∷ []) (IsStratifiedGiven purpose) (asks_order purpose) rows g (λ h p. same_row h p.same)
+  where
+    same_row : (h : Given) → h ≡ g → AtMostOne rows h
+    same_row h same = one h (subst (λ (x : Given). IsModel x.meant.sys x.meant.names) (sym same) is)
+
 pub sound_stratified : {L : Type 0} (purpose : Purpose) (form : Form) (rows : Job → List (Row Given L)) → IsSoundStratified purpose form rows → IsSoundOnModel form (λ job. if_stratified purpose (rows job))
 sound_stratified purpose form rows sound = record {
   simple = sound.simple;
   model = sound.model;
   table = sound.table;
-  exclusive = λ job g is. stage_one (cycle_row purpose ∷ []) (IsStratifiedGiven purpose) (asks_order purpose) (rows job) g (λ h p. same_row job g h p.same is);
+  exclusive = λ job. one_stratified purpose (rows job) (sound.exclusive job);
 }
-  where
-    same_row : (job : Job) (g h : Given) → h ≡ g → IsModel g.meant.sys g.meant.names → AtMostOne (rows job) h
-    same_row job g h same is = sound.exclusive job h (subst (λ (x : Given). IsModel x.meant.sys x.meant.names) (sym same) is)
+
+-- ---- a text that a command makes
+
+makes : {L : Type 0} (text : List ℕ) → IsStage {L = L} [] (λ (x : Contents) (made : Contents). made ≡ text ∷ [])
+makes text = record { one = λ x a b p q. p ∙ sym q; exclusive = λ x. tt; apart = λ x. tt }
+
+pub one_on_text : {L : Type 0} (text : List ℕ) (rows : List (Row Given L)) → ((g : Given) → IsModel g.meant.sys g.meant.names → AtMostOne rows g) → (x : Contents) → AtMostOne (over_text text rows) x
+one_on_text text rows one x = stage_one [] _ (makes text) (over_model rows) x (λ made is. one_on_model rows one made)

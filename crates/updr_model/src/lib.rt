@@ -10,3 +10,4 @@ mod telling;
 pub use cycle::order_for;
 pub use on_model::{IfStratified, OnModel, OnStratified, OverModel};
 pub use pyv_sorts::Elaborated;
+pub use reading::read_model;

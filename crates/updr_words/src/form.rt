@@ -5,13 +5,14 @@ ghost use Rattle.updr_words.specs.Forms.{form_of, number_of, file_rule, number_r
 use clap::{Arg, ArgAction, Command, value_parser};
 use std::alloc::{AllocError, Global};
 
-/// A number that an option gives.
+/// A number that the words give: by an option, or by a word of its own.
 #[derive(Clone, Copy)]
 pub struct Number {
     /// The option is `--` and this name.
     pub name: &'static str,
-    /// What stands for the number where the option isn't given.
-    pub usual: &'static str,
+    /// What stands for the number where the option isn't given. Without it the number is no option,
+    /// but a word of its own, which has to be there.
+    pub usual: Option<&'static str>,
     pub least: u32,
     pub most: u32,
 }
@@ -23,6 +24,7 @@ pub struct Form {
     pub name: &'static str,
     /// What stands for each of the files that the command reads, in the order of reading.
     pub files: &'static [&'static str],
+    /// Those that are words of their own stand behind the files.
     pub numbers: &'static [Number],
     /// The options without a value: each is `--` and its name.
     pub flags: &'static [&'static str],
@@ -36,16 +38,17 @@ fn file_arg<'a>(alloc: Global, name: &'a str) -> Arg<'a>
     Arg::new(alloc, name).required(true).action(ArgAction::Set)
 }
 
-/// The option of a number.
+/// The option of a number, or its place among the words.
 fn number_arg<'a>(alloc: Global, number: Number) -> Arg<'a>
     ensures rule { rule_of result ≡ number_rule (number_of number) }
     ensures own { result.global ≡ false }
 {
     let parser = value_parser!(u32).range(i64::from(number.least)..=i64::from(number.most));
-    Arg::new(alloc, number.name)
-        .long(number.name)
-        .default_value(number.usual)
-        .value_parser(parser)
+    let arg = Arg::new(alloc, number.name);
+    match number.usual {
+        Some(usual) => arg.long(number.name).default_value(usual).value_parser(parser),
+        None => arg.required(true).action(ArgAction::Set).value_parser(parser),
+    }
 }
 
 /// An option without a value.
@@ -72,7 +75,7 @@ fn with_files<'a>(
     Ok(command)
 }
 
-/// The command with the options of these numbers behind its own arguments.
+/// The command with the arguments of these numbers behind its own.
 fn with_numbers<'a>(
     alloc: Global,
     command: Command<'a>,
