@@ -1,4 +1,4 @@
-ghost use Rattle.std.specs.Prelude.{◌≡◌, ◌++◌, ◌-◌, ◌<◌, ◌≤◌, ◌^◌, string_bytes, IfOk, OnOk};
+ghost use Rattle.std.specs.Prelude.{◌≡◌, ◌++◌, ◌-◌, ◌<◌, ◌≤◌, ◌^◌, length, string_bytes, IfOk, OnOk};
 ghost use Rattle.std.specs.List.{flat_map, range_with_len};
 ghost use Rattle.up_gen.specs.Models.{declaration, initially_empty, move_text, states_text, transitions_text, model_text_of};
 
@@ -80,11 +80,13 @@ fn push_model(text: &mut String, n: u32) -> Result<(), AllocError>
 /// through n relations, one after the other, before it comes back. The safety is that the last
 /// relation never has two nodes. It grows with n, and so does each invariant that shows it safe.
 ///
-/// It asks for an n from 1 to [`MOST_RELATIONS`]. The one error is out of memory.
+/// It asks for an n from 1 to [`MOST_RELATIONS`]. The text has at most 2,000 bytes. The one error is
+/// out of memory.
 pub fn model_text(alloc: Global, n: u32) -> Result<Text, AllocError>
     requires low { 1 ≤ n }
     requires high { n ≤ MOST_RELATIONS }
     ensures text { IfOk result (λ text. text ≡ model_text_of n) }
+    ensures short { IfOk result (λ text. length text ≤ 2000) }
 {
     let mut text = String::new(alloc);
     push_model(&mut text, n)?;

@@ -1,4 +1,5 @@
 pub mod Complete
+pub mod DemoEnds
 pub mod EachOne
 pub mod Ended
 pub mod Judgeable

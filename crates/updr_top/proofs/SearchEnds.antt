@@ -6,6 +6,7 @@ use Rattle.fo_core.specs.declared.query.TheConstants.{MOST_WEIGHT}
 use Rattle.pyv_sorts.specs.declared.model.Elaborated.{Elaborated}
 use Rattle.up_claims.specs.declared.verdict.Verdict.{Verdict}
 use Rattle.up_claims.specs.declared.verdict.Verdict.TheVariants as V
+use Rattle.up_machine.specs.declared.limits.Limits.{Limits}
 use Rattle.up_machine.specs.declared.limits.TheConstants.{MOST_WORKERS, MOST_SEATS, MOST_FRAMES, MOST_STEPS}
 use Rattle.up_machine.specs.Ranges.{AreInRange, IsFrom1}
 use Rattle.up_machine.specs.Told.{Told}
@@ -17,8 +18,9 @@ use Rattle.updr_told.specs.declared.status.Status.TheVariants as status
 use Rattle.updr_words.specs.Jobs.{AreInRange as AreOptionsInRange}
 use Rattle.updr_table.specs.Rows.{Contents, Ends, EndsBy, end_of}
 use Rattle.updr_model.specs.OnModel.{Given}
-use Rattle.updr_top.specs.Infer.{infer_form, infer_table, search_text, told_row}
+use Rattle.updr_top.specs.Infer.{infer_form}
 use Rattle.updr_top.specs.OneStatus.{status_of}
+use Rattle.updr_top.specs.Tellings.{Printing, search_table, told_row}
 
 -- the options of words are limits in range
 pub in_range : (ns : List ℕ) → AreOptionsInRange infer_form.numbers ns
@@ -49,12 +51,12 @@ read_range ns five ranges w b f s x d e g h i is_w is_b is_f is_s is_x =
       weight = subst (IsFrom1 MOST_WEIGHT) (sym (is_x ∙ get_or_default ns 4 i 0 (omega (arith, five)))) r.weight;
     }
 
-module _ (meant : Elaborated) (cs : Contents) (core : CoreView) (ran : IsRun meant.sys core.order core.limits core) (text : List ℕ) (e : End CoreView) where
+module _ (printing_of : Printing) (limits : Limits) (meant : Elaborated) (cs : Contents) (core : CoreView) (ran : IsRun meant.sys core.order limits core) (text : List ℕ) (e : End CoreView) where
   abbrev given : Given
   given = record { meant = meant; contents = cs }
 
-  module _ (told : Verdict) (tells : Told meant.sys core.history told) (text_is : text ≡ search_text meant core told) where
-    by_row : (of : Status) → status_of told ≡ of → e ≡ end_of of text (Some core) → EndsBy (told_row core.limits of) given e
+  module _ (told : Verdict) (tells : Told meant.sys core.history told) (text_is : text ≡ printing_of meant core told) where
+    by_row : (of : Status) → status_of told ≡ of → e ≡ end_of of text (Some core) → EndsBy (told_row printing_of limits of) given e
     by_row of status_is is = record {
       comes = record { history = core.history; course = ran.course; verdict = told; told = tells; status_is = status_is };
       bytes = text;
@@ -63,8 +65,8 @@ module _ (meant : Elaborated) (cs : Contents) (core : CoreView) (ran : IsRun mea
       is = is;
     }
 
-  -- the report of what is told is an end by a row of the table
-  pub search_ends : (told : Verdict) → Told meant.sys core.history told → text ≡ search_text meant core told → e ≡ printing (status_of told) text (Some core) → Ends (infer_table core.limits) given e
+  -- what is printed of what is told is an end by a row of the table
+  pub search_ends : (told : Verdict) → Told meant.sys core.history told → text ≡ printing_of meant core told → e ≡ printing (status_of told) text (Some core) → Ends (search_table printing_of limits) given e
   search_ends (V.Safe frame clauses) tells text_is is = inl (by_row (V.Safe frame clauses) tells text_is status.Holds refl is)
   search_ends (V.Unsafe run) tells text_is is = inr (inl (by_row (V.Unsafe run) tells text_is status.Unsafe refl is))
   search_ends (V.NoUniversal links) tells text_is is = inr (inr (inl (by_row (V.NoUniversal links) tells text_is status.NoUniversal refl is)))

@@ -14,6 +14,7 @@ use Rattle.up_machine.specs.Told.{Told}
 use Rattle.up_machine.proofs.Lists.{none_is_some, some_injective}
 use Rattle.up_machine.proofs.ToldHolds.{told_holds}
 use Rattle.up_core.specs.View.{CoreView}
+use Rattle.up_gen.specs.Models.{model_text_of}
 use Rattle.up_report.specs.Texts.{report_text}
 use Rattle.up_rounds.specs.Courses.{IsCourse, IsRun}
 use Rattle.up_rounds.proofs.SoundRuns.{run_sound}
@@ -25,32 +26,34 @@ use Rattle.updr_told.specs.declared.status.Status.TheVariants as status
 use Rattle.updr_words.specs.Jobs.{IsJob, Job}
 use Rattle.updr_table.specs.Commands.{IsNamed, MayEnd, MayEndBy}
 use Rattle.updr_table.specs.Outside.{AreContents, Outside}
-use Rattle.updr_table.specs.Rows.{Contents, content_at}
+use Rattle.updr_table.specs.Rows.{Contents, Row, content_at}
 use Rattle.updr_table.specs.Table.{Call}
 use Rattle.updr_model.specs.OneMeaning.{is_model}
-use Rattle.updr_model.specs.OnModel.{Given, IsStratifiedGiven, MeansGiven, cycle_row, fault_rows, if_stratified}
+use Rattle.updr_model.specs.OnModel.{Given, IsStratifiedGiven, MeansGiven, cycle_row, fault_rows, if_stratified, over_model}
 use Rattle.updr_model.specs.Texts.{MeansText}
 use Rattle.updr_top.specs.Bmc.{bmc_command, bmc_rows}
 use Rattle.updr_top.specs.Check.{check_command, check_limit, check_rows, judge_table}
 use Rattle.updr_top.specs.Commands.{commands}
-use Rattle.updr_top.specs.Infer.{Reports, infer_command, infer_form, infer_rows, infer_table, limits_of, report_of, search_text, told_row}
+use Rattle.updr_top.specs.Demo.{demo_command, demo_form, demo_table, demo_text, relations_of, usual_limits}
+use Rattle.updr_top.specs.Infer.{infer_command, infer_form, limits_of, report_of, search_text}
+use Rattle.updr_top.specs.OneStatus.{status_of}
 use Rattle.updr_top.specs.Reported.{IsOrderedReported, MeansReported, if_ordered, not_ordered, not_read}
-use Rattle.updr_top.specs.Searched.{AsksSearch, HasShown, IsPrinted, IsProved, IsSearch}
+use Rattle.updr_top.specs.Searched.{HasDemonstrated, HasShown, IsPrinted, IsProved, IsSearch, IsWrittenRun, NamesSearch, line_of}
+use Rattle.updr_top.specs.Tellings.{Printing, Reports, search_table, told_row}
 use Rattle.updr_top.specs.Verify.{verify_command, verify_rows}
-use Rattle.updr_top.proofs.Complete.{apart}
-use Rattle.updr_top.proofs.Left.{AllRefuse, Came, IsBare, NoneLeaves, Said, Says, bare, came, decided, none_left, of_stage}
+use Rattle.updr_top.proofs.Left.{AllRefuse, Came, IsBare, NoneLeaves, Said, Says, bare, came, decided, none_left, of_stage, unstaged}
 use Rattle.updr_top.proofs.Ranged.{told_spent}
 
 -- ---- ends that leave nothing
+
+fault_refuse : AllRefuse (fault_rows {L = CoreView})
+fault_refuse = (omega arith, (omega arith, (omega arith, tt)))
 
 module _ (o : Outside) (words : List (List ℕ)) (e : End CoreView) where
   -- an end that leaves nothing, or of which a row over a system leaves nothing
   of_bare : {A : Type 0} → IsBare e ⊎ A → (A → e.left ≡ None) → e.left ≡ None
   of_bare (inl b) rest = b.nothing
   of_bare (inr a) rest = rest a
-
-  fault_refuse : AllRefuse (fault_rows {L = CoreView})
-  fault_refuse = (omega arith, (omega arith, (omega arith, tt)))
 
   check_leaves : MayEndBy check_command o words e → e.left ≡ None
   check_leaves may = of (came check_command o words e may)
@@ -103,82 +106,122 @@ module _ (o : Outside) (words : List (List ℕ)) (e : End CoreView) where
 
 -- ---- ends of a search
 
--- an end that reports a search in the limits of a job, over the system that contents mean
-pub record IsSearchEnd (o : Outside) (words : List (List ℕ)) (e : End CoreView) : Type 0 where
+-- an end that tells what a search in these limits has come to, of a system of which P holds
+pub record IsSearchEnd (printing_of : Printing) (limits : Limits) (P : Elaborated → Type 0) (e : End CoreView) : Type 0 where
+  pub meant : Elaborated
+  pub means : P meant
+  pub of : Status
+  pub text : List ℕ
+  pub left : Option CoreView
+  pub reports : Reports printing_of limits of meant text left
+  pub is : e ≡ printing of text left
+
+module _ (printing_of : Printing) (limits : Limits) (P : Elaborated → Type 0) (e : End CoreView) where
+  of_row : (g : Given) → P g.meant → (of : Status) → (r : Says (told_row printing_of limits of) g e) → e ≡ printing of r.bytes r.left → IsSearchEnd printing_of limits P e
+  of_row g means of r is = record { meant = g.meant; means = means; of = of; text = r.bytes; left = r.left; reports = r.says; is = is }
+
+  of_rows : (g : Given) → P g.meant → Said (search_table printing_of limits) g e → IsSearchEnd printing_of limits P e
+  of_rows g means (inl r) = of_row g means status.Holds r r.is
+  of_rows g means (inr (inl r)) = of_row g means status.Unsafe r r.is
+  of_rows g means (inr (inr (inl r))) = of_row g means status.NoUniversal r r.is
+  of_rows g means (inr (inr (inr (inl r)))) = of_row g means status.Bounded r r.is
+  of_rows g means (inr (inr (inr (inr (inl r))))) = of_row g means status.Spent r r.is
+  of_rows g means (inr (inr (inr (inr (inr (inl r)))))) = of_row g means status.Over r r.is
+  of_rows g means (inr (inr (inr (inr (inr (inr none)))))) = absurd none
+
+-- the text of the first content means this system
+abbrev MeansFirst : Contents → Elaborated → Type 0
+MeansFirst contents meant = MeansText (content_at contents 0) meant.sys meant.names
+
+-- the rows over a model refuse, or tell a search of what its text means
+module _ (printing_of : Printing) (limits : Limits) (contents : Contents) (e : End CoreView) where
+  abbrev rows : List (Row Given CoreView)
+  rows = search_table printing_of limits
+
+  of_model : Said (over_model (if_stratified purpose.Infer rows)) contents e → IsBare e ⊎ IsSearchEnd printing_of limits (MeansFirst contents) e
+  of_model h = first (of_stage fault_rows MeansGiven (if_stratified purpose.Infer rows) contents e fault_refuse h)
+    where
+      second : (g : Given) → MeansGiven contents g → IsBare e ⊎ ((s : Given) × IsStratifiedGiven purpose.Infer g s × Said rows s e) → IsBare e ⊎ IsSearchEnd printing_of limits (MeansFirst contents) e
+      second g means (inl b) = inl b
+      second g means (inr (s, is, told)) = inr (of_rows printing_of limits (MeansFirst contents) e s (subst (λ (x : Given). MeansFirst contents x.meant) (sym is.same) means.text) told)
+
+      first : IsBare e ⊎ ((g : Given) × MeansGiven contents g × Said (if_stratified purpose.Infer rows) g e) → IsBare e ⊎ IsSearchEnd printing_of limits (MeansFirst contents) e
+      first (inl b) = inl b
+      first (inr (g, means, over)) = second g means (of_stage (cycle_row purpose.Infer ∷ []) (IsStratifiedGiven purpose.Infer) rows g e (omega arith, tt) over)
+
+-- an end of `updr`: over the system that contents mean, in the limits of a job
+pub record IsInferEnd (o : Outside) (words : List (List ℕ)) (e : End CoreView) : Type 0 where
   pub job : Job
   pub asked : IsJob infer_form words job
   pub contents : Contents
   pub are : AreContents o job.files contents
-  pub meant : Elaborated
-  pub means : MeansText (content_at contents 0) meant.sys meant.names
-  pub of : Status
-  pub text : List ℕ
-  pub left : Option CoreView
-  pub reports : Reports (limits_of job) of meant text left
-  pub is : e ≡ printing of text left
+  pub end : IsSearchEnd search_text (limits_of job) (MeansFirst contents) e
+
+-- an end of `demo`: over the system that the text of a model of so many relations means
+pub record IsDemoEnd (words : List (List ℕ)) (e : End CoreView) : Type 0 where
+  pub job : Job
+  pub asked : IsJob demo_form words job
+  pub end : IsSearchEnd (demo_text (relations_of job)) usual_limits (MeansFirst (model_text_of (relations_of job) ∷ [])) e
 
 module _ (o : Outside) (words : List (List ℕ)) (e : End CoreView) where
-  module _ (job : Job) (asked : IsJob infer_form words job) (contents : Contents) (are : AreContents o job.files contents) where
-    of_row : (g : Given) → MeansGiven contents g → (of : Status) → (r : Says (told_row (limits_of job) of) g e) → e ≡ printing of r.bytes r.left → IsSearchEnd o words e
-    of_row g means of r is = record {
-      job = job;
-      asked = asked;
-      contents = contents;
-      are = are;
-      meant = g.meant;
-      means = means.text;
-      of = of;
-      text = r.bytes;
-      left = r.left;
-      reports = r.says;
-      is = is;
-    }
-
-    of_rows : (g : Given) → MeansGiven contents g → Said (infer_table (limits_of job)) g e → IsSearchEnd o words e
-    of_rows g means (inl r) = of_row g means status.Holds r r.is
-    of_rows g means (inr (inl r)) = of_row g means status.Unsafe r r.is
-    of_rows g means (inr (inr (inl r))) = of_row g means status.NoUniversal r r.is
-    of_rows g means (inr (inr (inr (inl r)))) = of_row g means status.Bounded r r.is
-    of_rows g means (inr (inr (inr (inr (inl r))))) = of_row g means status.Spent r r.is
-    of_rows g means (inr (inr (inr (inr (inr (inl r)))))) = of_row g means status.Over r r.is
-    of_rows g means (inr (inr (inr (inr (inr (inr none)))))) = absurd none
-
-    of_model : Said (infer_command.rows job) contents e → IsBare e ⊎ IsSearchEnd o words e
-    of_model h = first (of_stage fault_rows MeansGiven (if_stratified purpose.Infer (infer_rows job)) contents e (fault_refuse o words e) h)
-      where
-        second : (g : Given) → MeansGiven contents g → IsBare e ⊎ ((s : Given) × IsStratifiedGiven purpose.Infer g s × Said (infer_rows job) s e) → IsBare e ⊎ IsSearchEnd o words e
-        second g means (inl b) = inl b
-        second g means (inr (s, is, rows)) = inr (of_rows s (subst (MeansGiven contents) (sym is.same) means) rows)
-
-        first : IsBare e ⊎ ((g : Given) × MeansGiven contents g × Said (if_stratified purpose.Infer (infer_rows job)) g e) → IsBare e ⊎ IsSearchEnd o words e
-        first (inl b) = inl b
-        first (inr (g, means, over)) = second g means (of_stage (cycle_row purpose.Infer ∷ []) (IsStratifiedGiven purpose.Infer) (infer_rows job) g e (omega arith, tt) over)
-
-  search_end : MayEndBy infer_command o words e → IsBare e ⊎ IsSearchEnd o words e
-  search_end may = of (came infer_command o words e may)
+  infer_end : MayEndBy infer_command o words e → IsBare e ⊎ IsInferEnd o words e
+  infer_end may = of (came infer_command o words e may)
     where
-      of : Came infer_command o words e → IsBare e ⊎ IsSearchEnd o words e
+      ended : (job : Job) → IsJob infer_form words job → (contents : Contents) → AreContents o job.files contents → IsBare e ⊎ IsSearchEnd search_text (limits_of job) (MeansFirst contents) e → IsBare e ⊎ IsInferEnd o words e
+      ended job asked contents are (inl b) = inl b
+      ended job asked contents are (inr end) = inr (record { job = job; asked = asked; contents = contents; are = are; end = end })
+
+      of : Came infer_command o words e → IsBare e ⊎ IsInferEnd o words e
       of (bare b) = inl b
-      of (decided job asked contents are h) = of_model job asked contents are h
+      of (decided job asked contents are h) = ended job asked contents are (of_model search_text (limits_of job) contents e h)
+
+  demo_end : MayEndBy demo_command o words e → IsBare e ⊎ IsDemoEnd words e
+  demo_end may = of (came demo_command o words e may)
+    where
+      abbrev text_for : Job → List ℕ
+      text_for job = model_text_of (relations_of job)
+
+      ended : (job : Job) → IsJob demo_form words job → IsBare e ⊎ IsSearchEnd (demo_text (relations_of job)) usual_limits (MeansFirst (text_for job ∷ [])) e → IsBare e ⊎ IsDemoEnd words e
+      ended job asked (inl b) = inl b
+      ended job asked (inr end) = inr (record { job = job; asked = asked; end = end })
+
+      made : (job : Job) (contents : Contents) → contents ≡ text_for job ∷ [] → Said (over_model (if_stratified purpose.Infer (demo_table (relations_of job)))) contents e → IsBare e ⊎ IsSearchEnd (demo_text (relations_of job)) usual_limits (MeansFirst (text_for job ∷ [])) e
+      made job contents is h =
+          of_model (demo_text (relations_of job)) usual_limits (text_for job ∷ []) e
+          (subst (λ (cs : Contents). Said (over_model (if_stratified purpose.Infer (demo_table (relations_of job)))) cs e) is h)
+
+      of : Came demo_command o words e → IsBare e ⊎ IsDemoEnd words e
+      of (bare b) = inl b
+      of (decided job asked contents are h) =
+          let over = unstaged (λ (cs : Contents) (made : Contents). made ≡ text_for job ∷ []) (over_model (if_stratified purpose.Infer (demo_table (relations_of job)))) contents e h in
+          ended job asked (made job over.0 over.1 over.2)
 
   -- what an end is, of whatever command: one that leaves nothing, or one of a search
   pub data Ending : Type 0 where
-    leaves_nothing : ¬ IsNamed infer_command words ⊎ (10 ≤ number_of e.status) → e.left ≡ None → Ending
-    of_search : IsNamed infer_command words → IsSearchEnd o words e → Ending
+    leaves_nothing : (NamesSearch words → 10 ≤ number_of e.status) → e.left ≡ None → Ending
+    of_infer : IsNamed infer_command words → IsInferEnd o words e → Ending
+    of_demo : IsNamed demo_command words → IsDemoEnd words e → Ending
 
-  other : (name : List ℕ) → ¬ (length name ≡ 4) → slice_get words 0 ≡ Some name → ¬ IsNamed infer_command words
-  other name differ is named = apart words name (codes "updr") differ is named
+  -- words that name another command name none that searches
+  other : (name : List ℕ) → ¬ (name ≡ codes "updr") → ¬ (name ≡ codes "demo") → slice_get words 0 ≡ Some name → NamesSearch words → 10 ≤ number_of e.status
+  other name not_updr not_demo is (inl named) = absurd (not_updr (some_injective name (codes "updr") (sym is ∙ named)))
+  other name not_updr not_demo is (inr named) = absurd (not_demo (some_injective name (codes "demo") (sym is ∙ named)))
 
   ending : MayEnd commands o words e → Ending
-  ending (inl (named, may)) = leaves_nothing (inl (other (codes "check") (λ is. absurd (omega (arith, is))) named)) (check_leaves o words e may)
-  ending (inr (_, inl (named, may))) = leaves_nothing (inl (other (codes "verify") (λ is. absurd (omega (arith, is))) named)) (verify_leaves o words e may)
-  ending (inr (_, inr (_, inl (named, may)))) = leaves_nothing (inl (other (codes "bmc") (λ is. absurd (omega (arith, is))) named)) (bmc_leaves o words e may)
-  ending (inr (_, inr (_, inr (_, inl (named, may))))) = of (search_end may)
+  ending (inl (named, may)) = leaves_nothing (other (codes "check") (λ is. cc) (λ is. cc) named) (check_leaves o words e may)
+  ending (inr (_, inl (named, may))) = leaves_nothing (other (codes "verify") (λ is. cc) (λ is. cc) named) (verify_leaves o words e may)
+  ending (inr (_, inr (_, inl (named, may)))) = leaves_nothing (other (codes "bmc") (λ is. cc) (λ is. cc) named) (bmc_leaves o words e may)
+  ending (inr (_, inr (_, inr (_, inl (named, may))))) = of (infer_end may)
     where
-      of : IsBare e ⊎ IsSearchEnd o words e → Ending
-      of (inl b) = leaves_nothing (inr b.high) b.nothing
-      of (inr s) = of_search named s
-  ending (inr (_, inr (_, inr (_, inr (_, is))))) = leaves_nothing (inr (subst (λ (x : End CoreView). 10 ≤ number_of x.status) (sym is) (omega arith))) (ap (λ (x : End CoreView). x.left) is)
+      of : IsBare e ⊎ IsInferEnd o words e → Ending
+      of (inl b) = leaves_nothing (λ _. b.high) b.nothing
+      of (inr s) = of_infer named s
+  ending (inr (_, inr (_, inr (_, inr (_, inl (named, may)))))) = of (demo_end may)
+    where
+      of : IsBare e ⊎ IsDemoEnd words e → Ending
+      of (inl b) = leaves_nothing (λ _. b.high) b.nothing
+      of (inr s) = of_demo named s
+  ending (inr (_, inr (_, inr (_, inr (_, inr (_, is)))))) = leaves_nothing (λ _. subst (λ (x : End CoreView). 10 ≤ number_of x.status) (sym is) (omega arith)) (ap (λ (x : End CoreView). x.left) is)
 
 -- ---- the run
 
@@ -200,63 +243,89 @@ module _ (call : Call CoreView) (of : Status) (text : List ℕ) where
       whole : TakesAll call.out text → AppendsPrefix call.out.written text call.out.written_after
       whole all = (length text, subst (λ (x : List ℕ). Appends call.out.written x call.out.written_after) (sym (take-length text)) all.appended)
 
+-- ---- what the machine that is left shows
+
+module _ (call : Call CoreView) (printing_of : Printing) (limits : Limits) (contents : Contents) (e : End CoreView) (s : IsSearchEnd printing_of limits (MeansFirst contents) e) (told : Tells e call.out call.err call.number) (core : CoreView) (same : s.reports.core ≡ core) where
+  ran : IsRun s.meant.sys core.order limits core
+  ran = subst (λ (c : CoreView). IsRun s.meant.sys c.order limits c) same s.reports.ran
+
+  means : MeansText (content_at contents 0) core.sys s.meant.names
+  means = subst (λ (x : System). MeansText (content_at contents 0) x s.meant.names) (sym ran.sys_is) s.means
+
+  good : IsSystem core.sys
+  good = (is_model (content_at contents 0) core.sys s.meant.names means).system
+
+  course : IsCourse core.sys core.limits core.history
+  course =
+      subst (λ (l : Limits). IsCourse core.sys l core.history) (sym ran.limits_are)
+      (subst (λ (x : System). IsCourse x limits core.history) (sym ran.sys_is) ran.course)
+
+  tells : Told core.sys core.history s.reports.verdict
+  tells =
+      subst (λ (x : System). Told x core.history s.reports.verdict) (sym ran.sys_is)
+      (subst (λ (c : CoreView). Told s.meant.sys c.history s.reports.verdict) same s.reports.told)
+
+  written : IsWrittenRun core.sys core.limits core.history
+  written = record {
+    rounds = course.rounds;
+    sound = run_sound core.sys core.order core.limits core good (record { sys_is = refl; order_is = refl; limits_are = refl; course = course });
+  }
+
+  holds : IsProved core.sys core.limits core.history s.reports.verdict
+  holds = proved core.sys core.limits core.history s.reports.verdict good course tells
+
+  -- what is printed of it, in whatever way that is said
+  prints : (text : List ℕ) → printing_of s.meant core s.reports.verdict ≡ text → IsPrinted call (status_of s.reports.verdict) text
+  prints text is =
+      subst (λ (a : Status). IsPrinted call a text) (sym s.reports.status_is)
+      (subst (IsPrinted call s.of) (s.reports.text_is ∙ ap (λ (c : CoreView). printing_of s.meant c s.reports.verdict) same ∙ is) (printed call s.of s.text s.left (subst (λ (x : End CoreView). Tells x call.out call.err call.number) s.is told)))
+
 -- ---- the clause
 
 module _ (words : List (List ℕ)) (call : Call CoreView) where
-  module _ (e : End CoreView) (named : IsNamed infer_command words) (s : IsSearchEnd call.files words e) (told : Tells e call.out call.err call.number) where
-    -- the machine has the model's system
-    module _ (core : CoreView) (same : s.reports.core ≡ core) where
-      ran : IsRun s.meant.sys core.order (limits_of s.job) core
-      ran = subst (λ (c : CoreView). IsRun s.meant.sys c.order (limits_of s.job) c) same s.reports.ran
+  module _ (e : End CoreView) (told : Tells e call.out call.err call.number) (core : CoreView) where
+    has_shown : IsNamed infer_command words → (s : IsInferEnd call.files words e) → s.end.reports.core ≡ core → HasShown words call core
+    has_shown named s same =
+        let run = ran call search_text (limits_of s.job) s.contents e s.end told core same in record {
+          names = s.end.meant.names;
+          asked = record {
+            named = named;
+            job = s.job;
+            asked = s.asked;
+            limits_are = run.limits_are;
+            contents = s.contents;
+            were_read = s.are;
+            means = means call search_text (limits_of s.job) s.contents e s.end told core same;
+          };
+          run = written call search_text (limits_of s.job) s.contents e s.end told core same;
+          told = s.end.reports.verdict;
+          proved = holds call search_text (limits_of s.job) s.contents e s.end told core same;
+          printed =
+              prints call search_text (limits_of s.job) s.contents e s.end told core same
+              (report_text core.sys.sig s.end.meant.names (report_of core s.end.reports.verdict))
+              (ap (λ (x : System). report_text x.sig s.end.meant.names (report_of core s.end.reports.verdict)) (sym run.sys_is));
+        }
 
-      means : MeansText (content_at s.contents 0) core.sys s.meant.names
-      means = subst (λ (x : System). MeansText (content_at s.contents 0) x s.meant.names) (sym ran.sys_is) s.means
-
-      asks : AsksSearch words call.files core.limits core.sys s.meant.names
-      asks = record {
-        named = named;
-        job = s.job;
-        asked = s.asked;
-        limits_are = ran.limits_are;
-        contents = s.contents;
-        were_read = s.are;
-        means = means;
-      }
-
-      good : IsSystem core.sys
-      good = (is_model (content_at s.contents 0) core.sys s.meant.names means).system
-
-      course : IsCourse core.sys core.limits core.history
-      course =
-          subst (λ (l : Limits). IsCourse core.sys l core.history) (sym ran.limits_are)
-          (subst (λ (x : System). IsCourse x (limits_of s.job) core.history) (sym ran.sys_is) ran.course)
-
-      tells : Told core.sys core.history s.reports.verdict
-      tells =
-          subst (λ (x : System). Told x core.history s.reports.verdict) (sym ran.sys_is)
-          (subst (λ (c : CoreView). Told s.meant.sys c.history s.reports.verdict) same s.reports.told)
-
-      text_is : s.text ≡ report_text core.sys.sig s.meant.names (report_of core s.reports.verdict)
-      text_is =
-          s.reports.text_is
-          ∙ ap (λ (c : CoreView). search_text s.meant c s.reports.verdict) same
-          ∙ ap (λ (x : System). report_text x.sig s.meant.names (report_of core s.reports.verdict)) (sym ran.sys_is)
-
-      has_shown : HasShown words call core
-      has_shown = record {
-        names = s.meant.names;
-        asked = asks;
-        run = record {
-          rounds = course.rounds;
-          sound = run_sound core.sys core.order core.limits core good
-              (record { sys_is = refl; order_is = refl; limits_are = refl; course = course });
-        };
-        told = s.reports.verdict;
-        proved = proved core.sys core.limits core.history s.reports.verdict good course tells;
-        printed =
-            subst (λ (a : Status). IsPrinted call a (report_text core.sys.sig s.meant.names (report_of core s.reports.verdict))) (sym s.reports.status_is)
-            (subst (IsPrinted call s.of) text_is (printed call s.of s.text s.left (subst (λ (x : End CoreView). Tells x call.out call.err call.number) s.is told)));
-      }
+    has_demonstrated : IsNamed demo_command words → (s : IsDemoEnd words e) → s.end.reports.core ≡ core → HasDemonstrated words call core
+    has_demonstrated named s same =
+        let n = relations_of s.job in
+        let made = model_text_of n ∷ [] in
+        let run = ran call (demo_text n) usual_limits made e s.end told core same in record {
+          relations = n;
+          asked = record {
+            named = named;
+            job = s.job;
+            asked = s.asked;
+            relations_are = refl;
+            limits_are = run.limits_are;
+            names = s.end.meant.names;
+            means = means call (demo_text n) usual_limits made e s.end told core same;
+          };
+          run = written call (demo_text n) usual_limits made e s.end told core same;
+          told = s.end.reports.verdict;
+          proved = holds call (demo_text n) usual_limits made e s.end told core same;
+          printed = prints call (demo_text n) usual_limits made e s.end told core same (line_of n (status_of s.end.reports.verdict) core) refl;
+        }
 
   -- an answer's status is that of its end
   answered : (e : End CoreView) → Tells e call.out call.err call.number → call.number < 10 → call.number ≡ number_of e.status
@@ -264,31 +333,36 @@ module _ (words : List (List ℕ)) (call : Call CoreView) where
   answered e (inr (is, _)) low = absurd (omega (arith, is, low))
 
   module _ (a : IsAnswer (MayEnd commands call.files words) call.out call.err call.number call.left) where
-    leaves : IsNamed infer_command words → call.number < 10 → (core : CoreView) × (call.left ≡ Some core)
+    left_by : (printing_of : Printing) (limits : Limits) (P : Elaborated → Type 0) (s : IsSearchEnd printing_of limits P a.meant) → call.left ≡ Some s.reports.core
+    left_by printing_of limits P s = a.handed_on ∙ ap (λ (x : End CoreView). x.left) s.is ∙ s.reports.left_is
+
+    leaves : NamesSearch words → call.number < 10 → (core : CoreView) × (call.left ≡ Some core)
     leaves named low = of a.comes
       where
         high : 10 ≤ number_of a.meant.status → ⊥
         high h = let is = answered a.meant a.told low in omega (arith, is, low, h)
 
         by : Ending call.files words a.meant → (core : CoreView) × (call.left ≡ Some core)
-        by (leaves_nothing (inl not) none) = absurd (not named)
-        by (leaves_nothing (inr h) none) = absurd (high h)
-        by (of_search is s) = (s.reports.core, a.handed_on ∙ ap (λ (x : End CoreView). x.left) s.is ∙ s.reports.left_is)
+        by (leaves_nothing refuses none) = absurd (high (refuses named))
+        by (of_infer is s) = (s.end.reports.core, left_by _ _ _ s.end)
+        by (of_demo is s) = (s.end.reports.core, left_by _ _ _ s.end)
 
         of : MayEnd commands call.files words a.meant ⊎ (a.meant ≡ out_of_memory) → (core : CoreView) × (call.left ≡ Some core)
         of (inl may) = by (ending call.files words a.meant may)
         of (inr none) = absurd (high (subst (λ (x : End CoreView). 10 ≤ number_of x.status) (sym none) (omega arith)))
 
-    shows : (core : CoreView) → call.left ≡ Some core → HasShown words call core
+    shows : (core : CoreView) → call.left ≡ Some core → HasShown words call core ⊎ HasDemonstrated words call core
     shows core left = of a.comes
       where
-        by : Ending call.files words a.meant → HasShown words call core
-        by (leaves_nothing _ none) = none_is_some core (sym none ∙ sym a.handed_on ∙ left)
-        by (of_search named s) =
-            has_shown a.meant named s a.told core
-            (some_injective s.reports.core core (sym s.reports.left_is ∙ sym (ap (λ (x : End CoreView). x.left) s.is) ∙ sym a.handed_on ∙ left))
+        one_core : (c : CoreView) → call.left ≡ Some c → c ≡ core
+        one_core c is = some_injective c core (sym is ∙ left)
 
-        of : MayEnd commands call.files words a.meant ⊎ (a.meant ≡ out_of_memory) → HasShown words call core
+        by : Ending call.files words a.meant → HasShown words call core ⊎ HasDemonstrated words call core
+        by (leaves_nothing _ none) = none_is_some core (sym none ∙ sym a.handed_on ∙ left)
+        by (of_infer named s) = inl (has_shown a.meant a.told core named s (one_core s.end.reports.core (left_by _ _ _ s.end)))
+        by (of_demo named s) = inr (has_demonstrated a.meant a.told core named s (one_core s.end.reports.core (left_by _ _ _ s.end)))
+
+        of : MayEnd commands call.files words a.meant ⊎ (a.meant ≡ out_of_memory) → HasShown words call core ⊎ HasDemonstrated words call core
         of (inl may) = by (ending call.files words a.meant may)
         of (inr none) = none_is_some core (sym (ap (λ (x : End CoreView). x.left) none) ∙ sym a.handed_on ∙ left)
 

@@ -20,6 +20,7 @@ use Rattle.up_core.specs.View.{CoreView}
 use Rattle.up_report.specs.Texts.{report_text}
 use Rattle.up_unroll.specs.Unrolling.{IsUnrollExcess}
 use Rattle.updr_told.specs.declared.status.Status.TheVariants.{Holds, Unsafe, Over}
+use Rattle.updr_words.specs.declared.form.Giving.TheVariants.{ByOption}
 use Rattle.updr_words.specs.Forms.{Form, Number}
 use Rattle.updr_words.specs.Jobs.{Job}
 use Rattle.updr_table.specs.Commands.{Command}
@@ -29,7 +30,7 @@ use Rattle.updr_top.specs.Options.{weight_option}
 
 -- `--depth`, the most steps of a run that is looked for: from 0 to 32, and without it 10
 abbrev pub depth_option : Number
-depth_option = record { name = codes "depth"; usual = codes "10"; least = 0; most = 32 }
+depth_option = record { name = codes "depth"; giving = ByOption; usual = codes "10"; least = 0; most = 32 }
 
 -- `bmc MODEL --depth D --weight W`
 abbrev pub bmc_form : Form

@@ -3,6 +3,7 @@ pub mod Check
 pub mod CheckSound
 pub mod Commands
 pub mod Complete
+pub mod Demo
 pub mod Infer
 pub mod Narrow
 pub mod OneStatus
@@ -11,4 +12,5 @@ pub mod Reading
 pub mod Reported
 pub mod Searched
 pub mod Served
+pub mod Tellings
 pub mod Verify

@@ -4,7 +4,7 @@
 -- machine, frame i holds in every state that is reached within i steps, and the printed verdict
 -- holds: a universal inductive invariant, a shortest violating run, a chain that no universal
 -- invariant survives, or that the stated frames, steps or weight were spent.
-use Rattle.std.specs.Prelude.{◌≡◌, ◌⊎◌, ℕ, ◌<◌, ◌≤◌, List, Some, ⊤}
+use Rattle.std.specs.Prelude.{◌≡◌, ◌⊎◌, ℕ, ◌<◌, ◌≤◌, List, Some, length, ⊤}
 use Rattle.fo_core.specs.declared.names.Names.{Names}
 use Rattle.fo_core.specs.declared.system.System.{System}
 use Rattle.pv_base.specs.Written.{AppendsPrefix}
@@ -14,7 +14,8 @@ use Rattle.up_machine.specs.declared.event.Event.{Event}
 use Rattle.up_machine.specs.declared.limits.Limits.{Limits}
 use Rattle.up_machine.specs.Rounds.{Rounds}
 use Rattle.up_machine.specs.Told.{HoldsShortest, Told}
-use Rattle.up_core.specs.View.{CoreView}
+use Rattle.up_core.specs.View.{CoreView, now, numbers_of}
+use Rattle.up_gen.specs.Models.{model_text_of}
 use Rattle.up_report.specs.Texts.{report_text}
 use Rattle.up_seats.specs.Sound.{IsSoundRun}
 use Rattle.updr_told.specs.Statuses.{number_of}
@@ -27,6 +28,7 @@ use Rattle.updr_table.specs.Outside.{AreContents, Outside}
 use Rattle.updr_table.specs.Rows.{Contents, content_at}
 use Rattle.updr_table.specs.Table.{Call}
 use Rattle.updr_model.specs.Texts.{MeansText}
+use Rattle.updr_top.specs.Demo.{demo_command, demo_form, demo_line, relations_of, usual_limits}
 use Rattle.updr_top.specs.Infer.{infer_command, infer_form, limits_of, report_of}
 use Rattle.updr_top.specs.OneStatus.{status_of}
 
@@ -44,6 +46,18 @@ pub record AsksSearch (words : List (List ℕ)) (files : Outside) (limits : Limi
   pub contents : Contents
   pub were_read : AreContents files job.files contents
   pub means : MeansText (content_at contents 0) sys names
+
+-- The words are those of `demo`, and ask for a search of the model of so many relations in the usual
+-- limits; and the text of that model means this system.
+pub record AsksDemo (words : List (List ℕ)) (limits : Limits) (sys : System) (relations : ℕ) : Type 0
+  where
+    pub named : IsNamed demo_command words
+    pub job : Job
+    pub asked : IsJob demo_form words job
+    pub relations_are : relations ≡ relations_of job
+    pub limits_are : limits ≡ usual_limits
+    pub names : Names
+    pub means : MeansText (model_text_of relations) sys names
 
 -- ---- the run
 
@@ -79,10 +93,16 @@ IsPrinted call status text =
     ⊎ ((call.number ≡ number_of WriteFault)
     × AppendsPrefix call.out.written text call.out.written_after)
 
+-- the line of `demo`: of the length of the model's text, this status, and how far the machine came
+abbrev pub line_of : ℕ → Status → CoreView → List ℕ
+line_of relations status core =
+    demo_line relations (length (model_text_of relations)) status (numbers_of (now core))
+
 -- ---- the headline
 
--- What a call that left this machine has shown. Its history is the only one that rounds make of the
--- system in the limits, whatever the number of workers (laws of up_rounds and of this crate).
+-- What a call of `updr` that left this machine has shown. Its history is the only one that rounds
+-- make of the system in the limits, whatever the number of workers (laws of up_rounds and of this
+-- crate).
 pub record HasShown (words : List (List ℕ)) (call : Call CoreView) (core : CoreView) : Type 0 where
   pub names : Names
   pub asked : AsksSearch words call.files core.limits core.sys names
@@ -92,10 +112,26 @@ pub record HasShown (words : List (List ℕ)) (call : Call CoreView) (core : Cor
   pub printed :
       IsPrinted call (status_of told) (report_text core.sys.sig names (report_of core told))
 
--- A call of `updr` that ends with an answer leaves its machine, and whatever call leaves a machine
--- has shown by it what its verdict says.
+-- What a call of `demo` that left this machine has shown: the same of the system that the text of
+-- the model of n relations means, in the usual limits. Of the verdict its line tells the status.
+pub record HasDemonstrated (words : List (List ℕ)) (call : Call CoreView) (core : CoreView) :
+    Type 0 where
+  pub relations : ℕ
+  pub asked : AsksDemo words core.limits core.sys relations
+  pub run : IsWrittenRun core.sys core.limits core.history
+  pub told : Verdict
+  pub proved : IsProved core.sys core.limits core.history told
+  pub printed : IsPrinted call (status_of told) (line_of relations (status_of told) core)
+
+-- the words name a command that searches
+abbrev pub NamesSearch : List (List ℕ) → Type 0
+NamesSearch words = IsNamed infer_command words ⊎ IsNamed demo_command words
+
+-- A call of `updr` or `demo` that ends with an answer leaves its machine, and whatever call leaves a
+-- machine has shown by it what its verdict says.
 pub record IsSearch (words : List (List ℕ)) (call : Call CoreView) : Type 0 where
   pub leaves :
-      IsNamed infer_command words → call.number < 10 →
-      (core : CoreView) × (call.left ≡ Some core)
-  pub shows : (core : CoreView) → call.left ≡ Some core → HasShown words call core
+      NamesSearch words → call.number < 10 → (core : CoreView) × (call.left ≡ Some core)
+  pub shows :
+      (core : CoreView) → call.left ≡ Some core →
+      HasShown words call core ⊎ HasDemonstrated words call core

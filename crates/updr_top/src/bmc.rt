@@ -21,11 +21,12 @@ use up_report::write;
 use up_unroll::{Unrolled, unroll};
 use updr_model::{Elaborated, OnStratified};
 use updr_told::{Status, Stop, Told};
-use updr_words::{Form, Job, Number};
+use updr_words::{Form, Giving, Job, Number};
 
 /// `--depth`: the most steps of a run that is looked for.
 const DEPTH: Number = Number {
     name: "depth",
+    giving: Giving::ByOption,
     usual: "10",
     least: 0,
     most: 32,

@@ -4,15 +4,15 @@ ghost use Rattle.up_machine.specs.Ranges.{AreInRange};
 ghost use Rattle.up_machine.specs.Told.{Told as TellsVerdict};
 ghost use Rattle.up_report.specs.Ranges.{AreNumbers};
 ghost use Rattle.up_rounds.specs.Courses.{IsRun};
-ghost use Rattle.updr_told.specs.Ends.{printing};
 ghost use Rattle.updr_words.specs.Jobs.{AreInRange as AreOptionsInRange, job_of};
 ghost use Rattle.updr_table.specs.Rows.{Contents, Ends};
 ghost use Rattle.updr_model.specs.Texts.{IsModel};
-ghost use Rattle.updr_top.specs.Infer.{infer_form, infer_table, limits_of, report_of, search_text};
-ghost use Rattle.updr_top.specs.OneStatus.{status_of};
+ghost use Rattle.updr_top.specs.Infer.{infer_form, limits_of, report_of, search_text};
+ghost use Rattle.updr_top.specs.Tellings.{search_table};
 
 use crate::narrow::is_narrow;
 use crate::options::WEIGHT;
+use crate::verdicts::{status_of, told_verdict};
 use fo_core::{Order, Purpose};
 use fo_solve::Engines;
 use std::alloc::{AllocError, Global};
@@ -23,12 +23,13 @@ use up_machine::{Limits, MOST_FRAMES, MOST_SEATS, MOST_STEPS, MOST_WORKERS};
 use up_report::write;
 use up_rounds::infer_rounds;
 use updr_model::{Elaborated, OnStratified};
-use updr_told::{Status, Stop, Told};
-use updr_words::{Form, Job, Number};
+use updr_told::{Stop, Told};
+use updr_words::{Form, Giving, Job, Number};
 
 /// `--workers`: how many threads share the jobs of a round.
 const WORKERS: Number = Number {
     name: "workers",
+    giving: Giving::ByOption,
     usual: "4",
     least: 1,
     most: MOST_WORKERS,
@@ -37,6 +38,7 @@ const WORKERS: Number = Number {
 /// `--batch`: how many seats a round has.
 const BATCH: Number = Number {
     name: "batch",
+    giving: Giving::ByOption,
     usual: "8",
     least: 1,
     most: MOST_SEATS,
@@ -45,6 +47,7 @@ const BATCH: Number = Number {
 /// `--frames`: how far the frontier may go.
 const FRAMES: Number = Number {
     name: "frames",
+    giving: Giving::ByOption,
     usual: "20",
     least: 1,
     most: MOST_FRAMES,
@@ -53,6 +56,7 @@ const FRAMES: Number = Number {
 /// `--steps`: how many productive events there may be.
 const STEPS: Number = Number {
     name: "steps",
+    giving: Giving::ByOption,
     usual: "20000",
     least: 1,
     most: MOST_STEPS,
@@ -71,32 +75,6 @@ fn limits_by(job: &Job<'_>) -> Limits
         frames: job.numbers[2],
         steps: job.numbers[3],
         weight: u64::from(job.numbers[4]),
-    }
-}
-
-/// The status with which a verdict is reported.
-fn status_of(verdict: &Verdict) -> Status
-    ensures { result ≡ status_of verdict.now }
-{
-    match verdict {
-        Verdict::Safe(_, _) => Status::Holds,
-        Verdict::Unsafe(_) => Status::Unsafe,
-        Verdict::NoUniversal(_) => Status::NoUniversal,
-        Verdict::Bounded(_, _, _) => Status::Bounded,
-        Verdict::Spent(_) => Status::Spent,
-        Verdict::Over(_, _) => Status::Over,
-        Verdict::NoRun(_) => Status::Holds,
-    }
-}
-
-/// The verdict of a machine whose run has come to its end.
-fn told_verdict(alloc: Global, meant: &Elaborated, core: &Core) -> Result<Verdict, AllocError>
-    requires { IsRun meant.now.sys core.now.order core.now.limits core.now }
-    ensures { IfOk result (TellsVerdict meant.now.sys core.now.history) }
-{
-    match core.verdict(alloc)? {
-        Some(verdict) => Ok(verdict),
-        None => unreachable!(),
     }
 }
 
@@ -140,7 +118,7 @@ fn reported(alloc: Global, meant: &Elaborated, core: Core) -> Result<Told<Core>,
     requires model { IsModel meant.now.sys meant.now.names }
     requires ran { IsRun meant.now.sys core.order core.limits core }
     ensures { IfOk result (λ end. (cs : Contents)
-        → Ends (infer_table core.limits) (record { meant = meant.now; contents = cs }) end) }
+        → Ends (search_table search_text core.limits) (record { meant = meant.now; contents = cs }) end) }
 {
     let verdict = told_verdict(alloc, meant, &core)?;
     let status = status_of(&verdict);

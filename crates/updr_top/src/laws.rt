@@ -7,7 +7,8 @@ ghost use Rattle.up_core.specs.View.{CoreView};
 ghost use Rattle.up_machine.specs.declared.limits.Limits.{Limits};
 ghost use Rattle.up_rounds.specs.Courses.{AreAlike};
 ghost use Rattle.updr_told.specs.declared.status.Status.{Status};
-ghost use Rattle.updr_top.specs.Infer.{Reports};
+ghost use Rattle.updr_top.specs.Infer.{search_text};
+ghost use Rattle.updr_top.specs.Tellings.{Reports};
 
 /// How many workers search changes nothing of what `updr` prints: where all other limits are the
 /// same, so are the status and the text.
@@ -15,5 +16,5 @@ pub fn workers_change_no_report()
     ensures { (a b : Limits) (meant : Meant) (s t : Status) (x y : List ℕ)
         (left right : Option CoreView) →
         IsSystem meant.sys → AreAlike a b →
-        Reports a s meant x left → Reports b t meant y right → (s ≡ t) × (x ≡ y) }
+        Reports search_text a s meant x left → Reports search_text b t meant y right → (s ≡ t) × (x ≡ y) }
 {}

@@ -3,12 +3,14 @@
 
 mod bmc;
 mod check;
+mod demo;
 mod infer;
 mod laws;
 mod narrow;
 mod options;
 mod reported;
 mod top;
+mod verdicts;
 mod verify;
 
 pub use laws::workers_change_no_report;

@@ -7,11 +7,12 @@ ghost use Rattle.updr_top.specs.Options.{weight_option};
 
 use fo_core::Finder;
 use fo_solve::Engine;
-use updr_words::Number;
+use updr_words::{Giving, Number};
 
 /// `--weight`: the most that a query may weigh.
 pub const WEIGHT: Number = Number {
     name: "weight",
+    giving: Giving::ByOption,
     usual: "4000000",
     least: 1,
     most: 4_000_000,

@@ -9,6 +9,7 @@ ghost use Rattle.updr_top.specs.Served.{IsServed};
 
 use crate::bmc::Bmc;
 use crate::check::Check;
+use crate::demo::Demo;
 use crate::infer::Infer;
 use crate::verify::Verify;
 use pv_base::{Files, Sink};
@@ -24,7 +25,10 @@ type Commands = More<
     OverModel<Check>,
     More<
         OverModel<IfStratified<Verify>>,
-        More<OverModel<IfStratified<Bmc>>, More<OverModel<IfStratified<Infer>>, Nothing>>,
+        More<
+            OverModel<IfStratified<Bmc>>,
+            More<OverModel<IfStratified<Infer>>, More<Demo, Nothing>>,
+        >,
     >,
 >;
 
@@ -33,21 +37,21 @@ type Commands = More<
 pub struct Ending {
     /// The status that the program ends with.
     pub status: u8,
-    /// The machine that came to the report, where `updr` wrote or tried to write one.
+    /// The machine that came to the verdict, where `updr` or `demo` told or tried to tell one.
     pub core: Option<Core>,
 }
 
 /// Serves the words of a command line, those behind the program's name.
 ///
-/// The first word names the command: `check`, `verify`, `bmc` or `updr`. `clap` reads the words, by
-/// a simple command for each. Then the files that they name are read in order, and the command ends
-/// by the row of its table that comes over their contents. Each row says the status, when it comes,
-/// and what is printed on `out` by an answer, or told on `err` by a refusal; the statuses of refusals
-/// are those from 10 on.
+/// The first word names the command: `check`, `verify`, `bmc`, `updr` or `demo`. `clap` reads the
+/// words, by a simple command for each. Then the files that they name are read in order, and the
+/// command ends by the row of its table that comes over their contents; `demo` makes its model's text
+/// from a number. Each row says the status, when it comes, and what is printed on `out` by an answer,
+/// or told on `err` by a refusal; the statuses of refusals are those from 10 on.
 ///
-/// `updr` leaves the machine that came to its verdict, which shows what is printed: its history is a
-/// run of the machine as it is written, its frames hold, and the verdict holds. It waits for nothing
-/// but its own threads.
+/// `updr` and `demo` leave the machine that came to the verdict, which shows what is printed: its
+/// history is a run of the machine as it is written, its frames hold, and the verdict holds. They
+/// wait for nothing but their own threads.
 pub fn run_plain<R: Threads + Sync, F: Files, O: Sink, E: Sink>(
     rt: &R,
     alloc: Global,

@@ -1,17 +1,20 @@
 -- The words of a command as data, and the command of clap that reads them.
-use Rattle.std.specs.Prelude.{◌≡◌, ℕ, pos, true, List, [], ◌∷◌, map, Option, None, Some, option_map}
+use Rattle.std.specs.Prelude.{◌≡◌, ℕ, pos, true, List, [], ◌∷◌, map, Some}
 use Rattle.std.specs.Borrow.{Bor}
 use Rattle.clap.specs.Words.{App, Rule, Text, is_simple_and_free, new_app, new_rule, with_rule}
 use Rattle.clap.specs.declared.builder.value_parser.ValueParser.TheVariants as parser
 use Rattle.clap.specs.declared.builder.action.ArgAction.TheVariants.{Set, SetTrue}
 use Rattle.updr_words.specs.declared.form.Form as code
+use Rattle.updr_words.specs.declared.form.Giving.{Giving}
+use Rattle.updr_words.specs.declared.form.Giving.TheVariants.{ByOption, ByWord}
 use Rattle.updr_words.specs.declared.form.Number as code_number
 
--- a number that the words give: its name, what stands for it where its option isn't given, and its
--- range; where nothing stands for it, it is no option but a word of its own, which has to be there
+-- a number that the words give: its name, whether by an option or by a word, what stands for it
+-- where its option isn't given, and its range
 pub record Number : Type 0 where
   pub name : Text
-  pub usual : Option Text
+  pub giving : Giving
+  pub usual : Text
   pub least : ℕ
   pub most : ℕ
 
@@ -34,21 +37,20 @@ abbrev pub range_rule : Number → Rule → Rule
 range_rule n rule = record rule { parser = Some (parser.Signed (pos n.least) (pos n.most)) }
 
 -- `--`, the name and a number in the range, or the usual one
-abbrev pub option_rule : Number → Text → Rule
-option_rule n usual =
-    range_rule n (record (new_rule n.name) { long = Some n.name; defaults = usual ∷ [] })
+abbrev pub option_rule : Number → Rule
+option_rule n =
+    range_rule n (record (new_rule n.name) { long = Some n.name; defaults = n.usual ∷ [] })
 
 -- a number in the range, which has to be there
 abbrev pub word_rule : Number → Rule
 word_rule n = range_rule n (file_rule n.name)
 
--- an option where there is a usual number, else a word
-abbrev pub rule_by : Number → Option Text → Rule
-rule_by n (Some usual) = option_rule n usual
-rule_by n None = word_rule n
+abbrev pub rule_by : Giving → Number → Rule
+rule_by ByOption n = option_rule n
+rule_by ByWord n = word_rule n
 
 abbrev pub number_rule : Number → Rule
-number_rule n = rule_by n n.usual
+number_rule n = rule_by n.giving n
 
 -- `--` and the name
 abbrev pub flag_rule : Text → Rule
@@ -79,7 +81,8 @@ texts = map (λ s. s.now)
 abbrev pub number_of : code_number.Number → Number
 number_of n = record {
   name = n.name.now;
-  usual = option_map (λ s. s.now) n.usual;
+  giving = n.giving;
+  usual = n.usual.now;
   least = n.least;
   most = n.most;
 }

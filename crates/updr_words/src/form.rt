@@ -5,14 +5,22 @@ ghost use Rattle.updr_words.specs.Forms.{form_of, number_of, file_rule, number_r
 use clap::{Arg, ArgAction, Command, value_parser};
 use std::alloc::{AllocError, Global};
 
-/// A number that the words give: by an option, or by a word of its own.
+/// How words give a number.
+#[derive(Clone, Copy)]
+pub enum Giving {
+    /// By an option: `--`, the number's name, and the number.
+    ByOption,
+    /// By a word of its own, which has to be there.
+    ByWord,
+}
+
+/// A number that the words give.
 #[derive(Clone, Copy)]
 pub struct Number {
-    /// The option is `--` and this name.
     pub name: &'static str,
-    /// What stands for the number where the option isn't given. Without it the number is no option,
-    /// but a word of its own, which has to be there.
-    pub usual: Option<&'static str>,
+    pub giving: Giving,
+    /// What stands for the number where its option isn't given. Of a word it says nothing.
+    pub usual: &'static str,
     pub least: u32,
     pub most: u32,
 }
@@ -44,10 +52,10 @@ fn number_arg<'a>(alloc: Global, number: Number) -> Arg<'a>
     ensures own { result.global ≡ false }
 {
     let parser = value_parser!(u32).range(i64::from(number.least)..=i64::from(number.most));
-    let arg = Arg::new(alloc, number.name);
-    match number.usual {
-        Some(usual) => arg.long(number.name).default_value(usual).value_parser(parser),
-        None => arg.required(true).action(ArgAction::Set).value_parser(parser),
+    let arg = Arg::new(alloc, number.name).value_parser(parser);
+    match number.giving {
+        Giving::ByOption => arg.long(number.name).default_value(number.usual),
+        Giving::ByWord => arg.required(true).action(ArgAction::Set),
     }
 }
 

@@ -8,5 +8,5 @@
 mod form;
 mod reading;
 
-pub use form::{Form, Number};
+pub use form::{Form, Giving, Number};
 pub use reading::{Job, WordsFault, read};

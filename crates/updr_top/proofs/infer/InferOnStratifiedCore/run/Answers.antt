@@ -1,11 +1,12 @@
 use Rattle.std.proofs.Common.{◌∙◌, subst}
 use Rattle.up_machine.specs.declared.limits.Limits.{Limits}
 use Rattle.updr_table.specs.Rows.{Ends, contents_of}
-use Rattle.updr_top.specs.Infer.{infer_table}
+use Rattle.updr_top.specs.Infer.{search_text}
+use Rattle.updr_top.specs.Tellings.{search_table}
 use Rattle.updr_top.proofs.infer.InferOnStratifiedCore.run.Goals as goal
 
 pub returns : goal.returns
 returns g c =
     let ends = c.in_ok-reported.ensures (contents_of c.args._contents.now) in
-    subst (λ (l : Limits). Ends (infer_table l) (record { meant = c.args.meant.now; contents = contents_of c.args._contents.now }) c.in_ok-reported.field-0)
+    subst (λ (l : Limits). Ends (search_table search_text l) (record { meant = c.args.meant.now; contents = contents_of c.args._contents.now }) c.in_ok-reported.field-0)
     (c.in_ok-core.ensures.limits_are ∙ c.limits_by-limits.ensures.is) ends
