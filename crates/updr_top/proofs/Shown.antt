@@ -163,6 +163,10 @@ pub record IsDemoEnd (words : List (List ℕ)) (e : End CoreView) : Type 0 where
   pub asked : IsJob demo_form words job
   pub end : IsSearchEnd (demo_text (relations_of job)) usual_limits (MeansFirst (model_text_of (relations_of job) ∷ [])) e
 
+-- the text that `demo` makes
+abbrev text_for : Job → List ℕ
+text_for job = model_text_of (relations_of job)
+
 module _ (o : Outside) (words : List (List ℕ)) (e : End CoreView) where
   infer_end : MayEndBy infer_command o words e → IsBare e ⊎ IsInferEnd o words e
   infer_end may = of (came infer_command o words e may)
@@ -178,9 +182,6 @@ module _ (o : Outside) (words : List (List ℕ)) (e : End CoreView) where
   demo_end : MayEndBy demo_command o words e → IsBare e ⊎ IsDemoEnd words e
   demo_end may = of (came demo_command o words e may)
     where
-      abbrev text_for : Job → List ℕ
-      text_for job = model_text_of (relations_of job)
-
       ended : (job : Job) → IsJob demo_form words job → IsBare e ⊎ IsSearchEnd (demo_text (relations_of job)) usual_limits (MeansFirst (text_for job ∷ [])) e → IsBare e ⊎ IsDemoEnd words e
       ended job asked (inl b) = inl b
       ended job asked (inr end) = inr (record { job = job; asked = asked; end = end })
