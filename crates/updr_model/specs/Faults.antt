@@ -1,5 +1,5 @@
 -- What is told of the faults of a model's text.
-use Rattle.std.specs.Prelude.{◌≡◌, ℕ, ◌-◌, List, ◌++◌, Option, None, Some, take, drop, codes}
+use Rattle.std.specs.Prelude.{ℕ, ◌-◌, List, ◌++◌, Option, None, Some, take, drop, codes}
 use Rattle.pv_base.specs.declared.Span.{Span}
 use Rattle.pyv_lex.specs.declared.token.LexFault.{LexFault}
 use Rattle.pyv_lex.specs.declared.token.LexFault.TheVariants as lex

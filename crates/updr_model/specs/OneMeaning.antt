@@ -1,5 +1,5 @@
 -- A text has a first fault or means a system, never both; it means one at most, and its faults have one status.
-use Rattle.std.proofs.Common.{◌≡◌, ◌<◌, ◌≤◌, ◌^◌, ◌∙◌, ℕ, List, Option, Some, None, Result, Ok, Err, length, sym, ap, subst, refl, arith}
+use Rattle.std.proofs.Common.{◌≡◌, ◌<◌, ◌^◌, ◌∙◌, ℕ, List, Option, Some, Ok, Err, length, sym, ap, subst, refl, arith}
 use Rattle.std.proofs.lemmas.List.{length-map}
 use Rattle.fo_core.specs.declared.names.Names.{Names}
 use Rattle.fo_core.specs.declared.system.System.{System}

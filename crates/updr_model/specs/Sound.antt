@@ -1,9 +1,8 @@
 -- The rows of commands over a model exclude each other.
-use Rattle.std.proofs.Common.{◌≡◌, ◌∙◌, ℕ, List, [], ◌∷◌, sym, ap, ap₂, subst}
+use Rattle.std.proofs.Common.{◌≡◌, ◌∙◌, ℕ, List, [], ◌∷◌, sym, ap₂, subst}
 use Rattle.fo_core.specs.declared.names.Names.{Names}
 use Rattle.fo_core.specs.declared.order.Purpose.{Purpose}
 use Rattle.fo_core.specs.declared.system.System.{System}
-use Rattle.fo_core.specs.SortGraph.{IsStratified}
 use Rattle.pyv_sorts.specs.declared.model.Elaborated.{Elaborated}
 use Rattle.updr_told.specs.declared.status.Status.{Status}
 use Rattle.updr_told.specs.declared.status.Status.TheVariants as status
@@ -11,12 +10,11 @@ use Rattle.updr_words.specs.Forms.{Form}
 use Rattle.updr_words.specs.Jobs.{Job}
 use Rattle.updr_table.specs.Commands.{IsSound}
 use Rattle.updr_table.specs.Rows.{AtMostOne, Contents, Row, content_at}
-use Rattle.updr_table.specs.Stages.{IsStage, ComeOnlyIfNone}
+use Rattle.updr_table.specs.Stages.{IsStage}
 use Rattle.updr_table.proofs.Staging.{stage_one}
-use Rattle.updr_model.specs.Faults.{Telling}
 use Rattle.updr_model.specs.OneMeaning.{one_status, no_fault, one_meaning, is_model}
 use Rattle.updr_model.specs.OnModel.{Given, MeansGiven, fault_row, fault_rows, over_model, model_command, IsSoundOnModel, cycle_row, IsStratifiedGiven, if_stratified, IsSoundStratified, over_text}
-use Rattle.updr_model.specs.Texts.{IsFault, IsModel}
+use Rattle.updr_model.specs.Texts.{IsModel}
 
 -- ---- the stage that reads a model
 

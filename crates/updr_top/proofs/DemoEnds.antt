@@ -1,7 +1,6 @@
 -- How `demo` ends.
-use Rattle.std.proofs.Common.{◌≡◌, ◌≤◌, ◌<◌, ◌^◌, ℕ, List, [], ◌∷◌, length, get_or, refl, sym, subst, arith}
+use Rattle.std.proofs.Common.{◌≡◌, ◌≤◌, ℕ, List, [], ◌∷◌, refl, subst}
 use Rattle.std.specs.Prelude.{slice_index_or}
-use Rattle.std.proofs.lemmas.List.{get_or_default}
 use Rattle.fo_core.specs.declared.order.Purpose.TheVariants as purpose
 use Rattle.fo_core.specs.SortGraph.{IsStratified}
 use Rattle.pyv_sorts.specs.declared.model.Elaborated.{Elaborated}

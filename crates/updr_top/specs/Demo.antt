@@ -1,5 +1,5 @@
 -- The command `demo`: the search of `updr`, in its usual limits, of a model that is made from a number.
-use Rattle.std.specs.Prelude.{◌≡◌, ℕ, List, [], ◌∷◌, ◌++◌, codes, decimal, length, refl, slice_index_or}
+use Rattle.std.specs.Prelude.{ℕ, List, [], ◌∷◌, ◌++◌, codes, decimal, length, refl, slice_index_or}
 use Rattle.clap.proofs.OnLiterals.{clap_on_literals}
 use Rattle.fo_core.specs.declared.order.Purpose.TheVariants as purpose
 use Rattle.up_claims.specs.declared.report.Numbers.{Numbers}

@@ -1,9 +1,8 @@
 -- The command `updr`: a search for a universal inductive invariant, by rounds of the machine.
-use Rattle.std.specs.Prelude.{◌≡◌, ℕ, List, [], ◌∷◌, Option, Some, codes, refl, slice_index_or}
+use Rattle.std.specs.Prelude.{ℕ, List, [], ◌∷◌, codes, refl, slice_index_or}
 use Rattle.std.proofs.Common.{arith}
 use Rattle.clap.proofs.OnLiterals.{clap_on_literals}
 use Rattle.fo_core.specs.declared.order.Purpose.TheVariants as purpose
-use Rattle.pyv_sorts.specs.declared.model.Elaborated.{Elaborated}
 use Rattle.up_claims.specs.declared.report.Report.{Report}
 use Rattle.up_claims.specs.declared.verdict.Verdict.{Verdict}
 use Rattle.up_machine.specs.declared.limits.Limits.{Limits}

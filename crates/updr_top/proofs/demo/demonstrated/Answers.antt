@@ -1,10 +1,9 @@
-use Rattle.std.proofs.Common.{◌≡◌, ◌∙◌, List, ℕ, Some, length, ap, ap₂}
+use Rattle.std.proofs.Common.{◌≡◌, ◌∙◌, ℕ, Some, length, ap, ap₂}
 use Rattle.up_claims.specs.declared.report.Numbers.{Numbers}
 use Rattle.up_gen.specs.Models.{model_text_of}
 use Rattle.updr_told.specs.Ends.{printing}
 use Rattle.updr_told.specs.declared.status.Status.{Status}
 use Rattle.updr_top.specs.Demo.{demo_line, demo_text, usual_limits}
-use Rattle.updr_top.specs.OneStatus.{status_of}
 use Rattle.updr_top.proofs.SearchEnds.{search_ends}
 use Rattle.updr_top.proofs.demo.demonstrated.Goals as goal
 
@@ -13,8 +12,8 @@ returns c =
     let n = c.args.relations in
     let line = c.in_ok-line.line.items in
     let same : line ≡ demo_text n c.args.meant.now c.args.core c.in_ok-verdict.verdict =
-        c.in_ok-line.ensures
-        ∙ ap (λ (b : ℕ). demo_line n b c.status_of-status.result c.numbers-numbers.result) c.requires.length
-        ∙ ap₂ (λ (s : Status) (ns : Numbers). demo_line n (length (model_text_of n)) s ns) c.status_of-status.ensures c.numbers-numbers.ensures in
+    c.in_ok-line.ensures
+    ∙ ap (λ (b : ℕ). demo_line n b c.status_of-status.result c.numbers-numbers.result) c.requires.length
+    ∙ ap₂ (λ (s : Status) (ns : Numbers). demo_line n (length (model_text_of n)) s ns) c.status_of-status.ensures c.numbers-numbers.ensures in
     let is = c.leaving.ensures ∙ ap (λ (s : Status). printing s line (Some c.args.core)) c.status_of-status.ensures in
     λ cs. search_ends (demo_text n) usual_limits c.args.meant.now cs c.args.core c.requires.ran line c.leaving.result c.in_ok-verdict.verdict c.in_ok-verdict.ensures same is

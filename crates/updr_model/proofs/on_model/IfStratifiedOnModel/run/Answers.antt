@@ -1,11 +1,8 @@
 -- The system is refused, or a row over it is a row of the command.
-use Rattle.std.proofs.Common.{◌≡◌, refl, subst}
+use Rattle.std.proofs.Common.{refl}
 use Rattle.std.proofs.lemmas.Result.{err_from_is_err_and}
 use Rattle.fo_core.specs.declared.order.Order.{Order}
-use Rattle.fo_core.specs.declared.order.Purpose.{Purpose}
-use Rattle.fo_core.specs.SortGraph.{SortEdge, Rises}
-use Rattle.updr_told.specs.Ends.{End}
-use Rattle.updr_table.specs.Rows.{Ends, contents_of}
+use Rattle.updr_table.specs.Rows.{contents_of}
 use Rattle.updr_table.proofs.Serving.{refused_ends, wider_ends}
 use Rattle.updr_words.specs.Jobs.{job_of}
 use Rattle.updr_model.specs.Cycles.{RefusesSystem}

@@ -1,10 +1,9 @@
 -- The text is refused, or a row over what it means is a row of the command.
-use Rattle.std.proofs.Common.{◌≡◌, ◌∙◌, ◌≤◌, ◌<◌, ◌^◌, length, refl, sym, subst, arith}
+use Rattle.std.proofs.Common.{refl, arith}
 use Rattle.std.proofs.lemmas.List.{length-map}
 use Rattle.std.proofs.lemmas.Result.{err_from_is_err_and}
 use Rattle.pyv_sorts.specs.declared.model.Elaborated.{Elaborated}
-use Rattle.updr_told.specs.Ends.{End}
-use Rattle.updr_table.specs.Rows.{Ends, content_at, contents_of}
+use Rattle.updr_table.specs.Rows.{content_at, contents_of}
 use Rattle.updr_table.proofs.Serving.{refused_ends, wider_ends}
 use Rattle.updr_words.specs.Jobs.{job_of}
 use Rattle.updr_model.specs.OnModel.{Given}

@@ -1,17 +1,15 @@
 -- The text that is made is refused, or a row over what it means is a row of the command.
-use Rattle.std.proofs.Common.{◌≡◌, ◌∙◌, ◌<◌, ◌≤◌, ◌^◌, List, ℕ, [], ◌∷◌, length, refl, sym, subst, ap, arith}
+use Rattle.std.proofs.Common.{◌≡◌, ◌∙◌, ◌≤◌, List, ℕ, [], ◌∷◌, length, sym, subst, ap, arith}
 use Rattle.std.proofs.lemmas.Result.{err_from_is_err_and}
 use Rattle.fo_core.specs.declared.order.Order.{Order}
 use Rattle.fo_core.specs.declared.order.Purpose.TheVariants as purpose
 use Rattle.pyv_sorts.specs.declared.model.Elaborated.{Elaborated}
-use Rattle.up_core.specs.View.{CoreView}
 use Rattle.up_gen.specs.Models.{model_text_of}
-use Rattle.updr_told.specs.Ends.{End}
-use Rattle.updr_table.specs.Rows.{Contents, Ends, contents_of}
+use Rattle.updr_table.specs.Rows.{Ends, contents_of}
 use Rattle.updr_table.proofs.Serving.{refused_ends}
 use Rattle.updr_model.specs.Cycles.{RefusesSystem}
 use Rattle.updr_model.specs.Texts.{MeansText, RefusesText}
-use Rattle.updr_top.specs.Demo.{demo_rows, demo_table, relations_of}
+use Rattle.updr_top.specs.Demo.{demo_table, relations_of}
 use Rattle.updr_top.proofs.DemoEnds.{of_cycle, of_search, of_text}
 use Rattle.updr_words.specs.Jobs.{job_of}
 use Rattle.updr_top.proofs.demo.DemoCourseCore.run.Goals as goal
