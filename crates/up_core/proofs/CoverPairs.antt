@@ -11,17 +11,19 @@ use Rattle.up_machine.specs.declared.event.Event.{Event}
 use Rattle.up_machine.specs.declared.job.Job.{Job}
 use Rattle.up_machine.specs.declared.job.Job.TheVariants as J
 use Rattle.up_machine.specs.declared.not_now.Cover.{Cover}
+use Rattle.up_machine.specs.Due.{IsFirst}
 use Rattle.up_machine.specs.Legal.{IsCover}
 use Rattle.up_machine.specs.Machine.{Clause, Machine}
 use Rattle.up_machine.specs.Rounds.{IsFirstCover}
 use Rattle.up_machine.specs.Sound.{IsFit}
 use Rattle.up_machine.proofs.Lists.{some_injective, get-lt}
 use Rattle.up_machine.proofs.SortedCubes.{sorted-places}
+use Rattle.up_core.specs.declared.clauses.LiveClause.{LiveClause}
 use Rattle.up_core.specs.declared.state.ClauseEntry.{ClauseEntry}
 use Rattle.up_core.specs.declared.state.JobEntry.{JobEntry}
 use Rattle.up_core.specs.declared.state.State.{State}
 use Rattle.up_core.specs.Choice.{has_job, is_push_of}
-use Rattle.up_core.specs.Covering.{CanCover, AllCanCover, IsCovering, MayGo, IsPair, IsFirstBy, IsFirstPair, IsFoundPair}
+use Rattle.up_core.specs.Covering.{CanCover, AllCanCover, IsCovering, CanGoFor, IsPair, IsFirstBy, IsFirstPair, IsFoundPair}
 use Rattle.up_core.specs.Mirror.{Pairs, IsCubeAt, IsClauseOf, IsMirror}
 use Rattle.up_core.specs.Room.{IsRoomy}
 use Rattle.up_core.specs.View.{MayRetire}
@@ -95,49 +97,53 @@ module _ (sys : System) (history : List Event) (m : Machine) (s : State) (mirror
       }
 
 -- what searches over pairs find
-module _ (history : List Event) (clauses : List ClauseEntry) where
-  abbrev May : ℕ → ℕ → Type 0
-  May g b = MayGo history clauses g b
+module _ (history : List Event) (clauses : List ClauseEntry) (jobs : List JobEntry) where
+  abbrev Pair : ℕ → ℕ → Type 0
+  Pair g b = IsPair history clauses jobs g b
 
-  pub go-of : (g b : ℕ) (d e : ClauseEntry) → g < length clauses → b < length clauses → g ≢ b → IsCovering history (get_or clauses g d) (get_or clauses b e) → May g b
-  go-of g b d e lt_g lt_b apart c = record {
-    old = get_or clauses g d;
-    old_there = slice_get-get_or clauses g d lt_g;
-    cover = get_or clauses b e;
-    cover_there = slice_get-get_or clauses b e lt_b;
-    apart = apart;
-    covering = c;
-  }
+  -- the covers of one clause
+  module _ (gone : LiveClause) (there : slice_get clauses gone.number ≡ Some gone.entry) where
+    abbrev pub Goes : ℕ → ClauseEntry → Type 0
+    Goes b e = CanGoFor history gone (record { number = b; entry = e })
 
-  pub go-to : (g b : ℕ) (d e : ClauseEntry) → May g b → IsCovering history (get_or clauses g d) (get_or clauses b e)
-  go-to g b d e h =
-      subst (λ x. IsCovering history x (get_or clauses b e)) (sym (get_or_from_slice_get clauses g h.old d h.old_there))
-      (subst (λ x. IsCovering history h.old x) (sym (get_or_from_slice_get clauses b h.cover e h.cover_there)) h.covering)
+    pair-of : (b : ℕ) (e : ClauseEntry) → slice_get clauses b ≡ Some e → Goes b e → has_job (is_push_of gone.number) jobs ≡ false → Pair gone.number b
+    pair-of b e there_b go free = record {
+      go = record { old = gone.entry; old_there = there; cover = e; cover_there = there_b; apart = go.apart; covering = go.covering };
+      free = free;
+    }
 
-  module _ (jobs : List JobEntry) where
-    abbrev Pair : ℕ → ℕ → Type 0
-    Pair g b = IsPair history clauses jobs g b
+    goes-of : (b : ℕ) (p : Pair gone.number b) → Goes b p.go.cover
+    goes-of b p = record {
+      apart = p.go.apart;
+      covering = subst (λ x. IsCovering history x p.go.cover) (some_injective p.go.old gone.entry (sym p.go.old_there ∙ there)) p.go.covering;
+    }
 
-    least : (g k : ℕ) → ((b : ℕ) → b < k → ¬ May g b) → (b : ℕ) → Pair g b → k ≤ b
-    least g k none b p = by (cases_lt b k)
+    pub first-by : (k : ℕ) → IsFirst clauses Goes k → has_job (is_push_of gone.number) jobs ≡ false → IsFirstBy history clauses jobs gone.number (Some k)
+    first-by k f free = (pair-of k f.found f.there f.has free, λ b p. least b p (cases_lt b k))
       where
-        by : (b < k) ⊎ (k ≤ b) → k ≤ b
-        by (inl lt) = absurd (none b lt p.go)
-        by (inr le) = le
+        least : (b : ℕ) → Pair gone.number b → (b < k) ⊎ (k ≤ b) → k ≤ b
+        least b p (inl lt) = absurd (f.first b p.go.cover lt p.go.cover_there (goes-of b p))
+        least b p (inr le) = le
 
-    pub first-by : (g k : ℕ) → ((b : ℕ) → b < k → ¬ May g b) → May g k → has_job (is_push_of g) jobs ≡ false → IsFirstBy history clauses jobs g (Some k)
-    first-by g k none go free = (record { go = go; free = free }, least g k none)
+    pub no-by : ((b : ℕ) (e : ClauseEntry) → slice_get clauses b ≡ Some e → ¬ Goes b e) → IsFirstBy history clauses jobs gone.number None
+    no-by none b p = none b p.go.cover p.go.cover_there (goes-of b p)
 
-    pub no-by : (g k : ℕ) → ((b : ℕ) → b < k → ¬ May g b) → length clauses ≤ k → IsFirstBy history clauses jobs g None
-    no-by g k none le b p = none b (omega (arith, get-lt clauses b p.go.cover p.go.cover_there, le)) p.go
+  -- a clause that may go
+  pub record MayGoNow (g : ℕ) (e : ClauseEntry) : Type 0 where
+    pub by : ℕ
+    pub there : slice_get clauses g ≡ Some e
+    pub pair : IsPair history clauses jobs g by
 
-    pub first-pair : (g by : ℕ) → ((i b : ℕ) → i < g → ¬ Pair i b) → IsFirstBy history clauses jobs g (Some by) → IsFirstPair history clauses jobs g by
-    first-pair g by none h = record { pair = h.0; first = λ i b p. order i b p (cases_order g i) }
-      where
-        order : (i b : ℕ) → Pair i b → (g ≡ i) ⊎ ((g < i) ⊎ (i < g)) → (g < i) ⊎ (g ≡ i) × (by ≤ b)
-        order i b p (inl same) = inr (same, h.1 b (subst (λ n. Pair n b) (sym same) p))
-        order i b p (inr (inl lt)) = inl lt
-        order i b p (inr (inr lt)) = absurd (none i b lt p)
+  pub may-live : (g : ℕ) (e : ClauseEntry) → MayGoNow g e → e.live ≡ true
+  may-live g e h = subst (λ (x : ClauseEntry). x.live ≡ true) (some_injective h.pair.go.old e (sym h.pair.go.old_there ∙ h.there)) h.pair.go.covering.gone_live
 
-    pub no-pair : (k : ℕ) → ((i b : ℕ) → i < k → ¬ Pair i b) → length clauses ≤ k → (g b : ℕ) → ¬ Pair g b
-    no-pair k none le g b p = none g b (omega (arith, get-lt clauses g p.go.old p.go.old_there, le)) p
+  pub first-pair : (g by : ℕ) → IsFirst clauses MayGoNow g → IsFirstBy history clauses jobs g (Some by) → IsFirstPair history clauses jobs g by
+  first-pair g by f h = record { pair = h.0; first = λ i b p. order i b p (cases_order g i) }
+    where
+      order : (i b : ℕ) → Pair i b → (g ≡ i) ⊎ ((g < i) ⊎ (i < g)) → (g < i) ⊎ (g ≡ i) × (by ≤ b)
+      order i b p (inl same) = inr (same, h.1 b (subst (λ n. Pair n b) (sym same) p))
+      order i b p (inr (inl lt)) = inl lt
+      order i b p (inr (inr lt)) = absurd (f.first i p.go.old lt p.go.old_there (record { by = b; there = p.go.old_there; pair = p }))
+
+  pub no-pair : ((g : ℕ) (e : ClauseEntry) → slice_get clauses g ≡ Some e → ¬ MayGoNow g e) → (g b : ℕ) → ¬ Pair g b
+  no-pair none g b p = none g p.go.old p.go.old_there (record { by = b; there = p.go.old_there; pair = p })

@@ -1,5 +1,6 @@
 -- Which failed pushes stay valid where a clause comes into some frames.
-use Rattle.std.proofs.Common.{◌≡◌, ℕ, zero, suc, ◌+◌, ◌<◌, ◌≤◌, Bool, true, false, List, [], ◌∷◌, ◌++◌, length, Option, None, Some, slice_get, refl, sym, ap, subst, ◌∙◌, arith, ◌⊎◌, inl, inr, Any}
+use Rattle.std.proofs.Common.{◌≡◌, ℕ, zero, suc, ◌+◌, ◌<◌, ◌≤◌, Bool, true, false, List, [], ◌∷◌, ◌++◌, length, Option, None, Some, slice_get, refl, sym, ap, subst, ◌∙◌, arith, ◌⊎◌, inl, inr, Any, true≢false}
+use Rattle.fo_core.specs.declared.signature.Sig.{Sig}
 use Rattle.fo_core.specs.declared.system.System.{System}
 use Rattle.fo_core.specs.declared.world.World.{World}
 use Rattle.up_diagram.specs.declared.cube.Cube.{Cube}
@@ -9,7 +10,7 @@ use Rattle.up_machine.specs.Due.{IsValid}
 use Rattle.up_machine.specs.Machine.{Clause, FailedPush, Machine, IsIn}
 use Rattle.up_machine.proofs.Lists.{none_is_some, any-of_place, some_injective, two_places}
 use Rattle.up_core.specs.declared.state.ClauseEntry.{ClauseEntry}
-use Rattle.up_core.specs.Lapsing.{IsHit, IsLapsed, IsWorldHit, AreLapsed}
+use Rattle.up_core.specs.Lapsing.{IsHit, IsLapsed, IsWorldHit, AreLapsed, AreLapsable}
 use Rattle.up_core.specs.Mirror.{Pairs, IsCubeAt, IsWorldAt, IsValidPush, IsValidAt, IsClauseOf}
 use Rattle.up_core.proofs.Grown.{cube-stays, world-stays}
 use Rattle.up_core.proofs.Pairing.{place-any, pairs-through}
@@ -95,3 +96,13 @@ module _ (sys : System) (history : List Event) (event : Event) (m n : Machine) (
       live = h.live ∙ sym l.live;
       failed = lapse-failed f l.failed;
     }
+
+-- an entry that isn't live has no failed push, so nothing lapses
+pub gone-lapsed : (history : List Event) (sig : Sig) (cube : Cube) (low high : ℕ) (es : List ClauseEntry) → AreLapsable history sig cube low high es →
+    (k : ℕ) (e : ClauseEntry) → slice_get es k ≡ Some e → e.live ≡ false → IsLapsed history sig cube low high e e
+gone-lapsed history sig cube low high es can k e there gone = record {
+  learnt = refl;
+  level = refl;
+  live = refl;
+  failed = inl (refl, λ hit. true≢false (sym ((can k e there).live hit.place hit.failed) ∙ gone));
+}

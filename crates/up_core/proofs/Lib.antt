@@ -14,6 +14,8 @@ pub mod Grown
 pub mod Lapsed
 pub mod LastTaken
 pub mod Listed
+pub mod LiveKept
+pub mod LiveParts
 pub mod Marked
 pub mod Marks
 pub mod Mirrors
@@ -21,6 +23,7 @@ pub mod Narrow
 pub mod NextCores
 pub mod Pairing
 pub mod Parts
+pub mod Placed
 pub mod Refuters
 pub mod Roomy
 pub mod Rooting

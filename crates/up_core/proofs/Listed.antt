@@ -1,5 +1,6 @@
 -- The cubes that entries stand for are those of the machine's clauses.
 use Rattle.std.proofs.Common.{◌≡◌, ℕ, zero, suc, ◌≤◌, Bool, true, false, cond, ◌&&◌, nat_le, List, [], ◌∷◌, ◌++◌, map, filter, Option, Some, slice_get, refl, sym, ap, ◌∙◌, arith, true≢false}
+use Rattle.std.specs.Prelude.{option_map}
 use Rattle.std.specs.Option.{option_and_then, option_to_list}
 use Rattle.fo_core.specs.declared.system.System.{System}
 use Rattle.fo_core.specs.Sorted.{IsSystem}
@@ -14,8 +15,9 @@ use Rattle.up_machine.proofs.FrameLaws.{reached}
 use Rattle.up_machine.proofs.Lists.{each-of_all}
 use Rattle.up_core.specs.declared.state.ClauseEntry.{ClauseEntry}
 use Rattle.up_core.specs.declared.state.State.{State}
-use Rattle.up_core.specs.Listing.{AreUnmet, listed}
+use Rattle.up_core.specs.Listing.{AreUnmet, cube_from, listed}
 use Rattle.up_core.specs.Mirror.{Pairs, IsCubeAt, IsClauseOf, IsMirror, cube_of}
+use Rattle.up_core.specs.Telling.{kept_with, told_from}
 use Rattle.up_core.proofs.Pairing.{pairs-map}
 
 module _ (history : List Event) (i : ℕ) where
@@ -49,6 +51,15 @@ listed-is sys history m s mirror i =
     listed-same history i m.clauses s.clauses.items
     (pairs-map m.clauses s.clauses.items (λ k c e. IsClauseOf history sys m k c e) (λ k. IsSame history i)
     (λ k c e h. record { cube = h.cube; level = h.level; live = h.live }) mirror.clauses)
+
+-- an entry that isn't live stands for no cube
+pub gone-cube : (history : List Event) (level : ℕ) (e : ClauseEntry) → e.live ≡ false → cube_from history level e ≡ []
+gone-cube history level e gone = ap (λ b. cond (b && nat_le level e.level) (option_to_list (option_and_then cube_of (slice_get history e.learnt))) []) gone
+
+-- nor is its clause told
+pub gone-told : (history : List Event) (level : ℕ) (e : ClauseEntry) → e.live ≡ false → told_from history level e ≡ []
+gone-told history level e gone =
+    ap (λ b. cond (b && nat_le level e.level) (option_to_list (option_map (kept_with e.level) (option_and_then cube_of (slice_get history e.learnt)))) []) gone
 
 -- frames hold
 pub unmet : (sys : System) (limits : Limits) (history : List Event) (i : ℕ) → IsSystem sys → Legal sys limits history → 1 ≤ i → AreUnmet sys i (cubes_from (replay history).clauses i)

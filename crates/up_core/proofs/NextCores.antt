@@ -186,8 +186,8 @@ module _ (sys : System) (order : Order) (limits : Limits) (history : Vec Event) 
   pub jobs-are : length here.jobs ≡ vec_len s.jobs
   jobs-are = pairs-length here.jobs s.jobs.items _ core.mirror.jobs ∙ sym s.jobs.ok.0
 
-  pub numbers-are : (n : ℕ) → n ≡ vec_len s.clauses → numbers_of here ≡ record { productive = s.productive; frontier = s.frontier; clauses = n }
-  numbers-are n is = numbers-same core.mirror.productive core.mirror.frontier (pairs-length here.clauses s.clauses.items _ core.mirror.clauses ∙ sym s.clauses.ok.0 ∙ sym is)
+  pub numbers-are : (n : ℕ) → n ≡ length s.clauses.items → numbers_of here ≡ record { productive = s.productive; frontier = s.frontier; clauses = n }
+  numbers-are n is = numbers-same core.mirror.productive core.mirror.frontier (pairs-length here.clauses s.clauses.items _ core.mirror.clauses ∙ sym is)
 
 -- a machine before any event
 pub core-new : (sys : System) (order : Order) (limits : Limits) (history : Vec Event) (s : State) (picks : ℕ) → CanInfer sys order → AreInRange limits → history.items ≡ [] → vec_len history ≡ 0 →

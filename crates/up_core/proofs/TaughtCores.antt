@@ -58,9 +58,9 @@ module _ (sys : System) (order : Order) (limits : Limits) (history : Vec Event) 
   fails : AreSoundFails sys here
   fails = history_fails sys limits history.items core.infer.system core.legal
 
-  -- the worlds of valid failed pushes may be tried against a well-sorted cube
-  lapsable : (cube : Cube) (low high : ℕ) → IsCube sys.sig cube → AreLapsable history.items sys.sig cube low high s.clauses.items
-  lapsable cube low high sorted k e there place failed world at =
+  -- the world of a valid failed push may be tried against a well-sorted cube
+  can-meet : (cube : Cube) → IsCube sys.sig cube → (k : ℕ) (e : ClauseEntry) → slice_get s.clauses.items k ≡ Some e → (place : ℕ) → e.failed ≡ Some place → CanHit history.items sys.sig cube place
+  can-meet cube sorted k e there place failed world at =
       let r = pairs-left here.clauses s.clauses.items (λ k c x. IsClauseOf history.items sys here k c x) core.mirror.clauses k e there in
       let p : IsValidAt history.items sys here k r.0 place = subst (IsValidPush history.items sys here k r.0) failed r.2.failed in
       let f = fails p.number p.failed p.there in
@@ -71,6 +71,16 @@ module _ (sys : System) (order : Order) (limits : Limits) (history : Vec Event) 
         copy = subst (λ (w : World). 0 < length w.copies) is (omega (arith, f.copies));
         sorted = sorted;
       }
+
+  -- and its clause is live
+  still-live : (k : ℕ) (e : ClauseEntry) → slice_get s.clauses.items k ≡ Some e → (place : ℕ) → e.failed ≡ Some place → e.live ≡ true
+  still-live k e there place failed =
+      let r = pairs-left here.clauses s.clauses.items (λ k c x. IsClauseOf history.items sys here k c x) core.mirror.clauses k e there in
+      let p : IsValidAt history.items sys here k r.0 place = subst (IsValidPush history.items sys here k r.0) failed r.2.failed in
+      sym r.2.live ∙ p.valid.live
+
+  lapsable : (cube : Cube) (low high : ℕ) → IsCube sys.sig cube → AreLapsable history.items sys.sig cube low high s.clauses.items
+  lapsable cube low high sorted k e there = record { meet = can-meet cube sorted k e there; live = still-live k e there }
 
   -- what is learnt is well-sorted and narrow
   module _ (w : ℕ) (cube : Cube) (known : IsKnown view (E.Learn w cube)) (now_is : IsNow view (E.Learn w cube)) where

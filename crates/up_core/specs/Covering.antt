@@ -5,6 +5,7 @@ use Rattle.up_diagram.specs.Covers.{Covers}
 use Rattle.up_diagram.specs.Cubes.{HasPlaces}
 use Rattle.up_machine.specs.declared.event.Event.{Event}
 use Rattle.up_machine.specs.declared.not_now.Cover.{Cover}
+use Rattle.up_core.specs.declared.clauses.LiveClause.{LiveClause}
 use Rattle.up_core.specs.declared.state.ClauseEntry.{ClauseEntry}
 use Rattle.up_core.specs.declared.state.JobEntry.{JobEntry}
 use Rattle.up_core.specs.Choice.{has_job, is_push_of}
@@ -30,6 +31,11 @@ module _ (history : List Event) where
     pub cover : Cube
     pub cover_at : IsCubeAt history by.learnt cover
     pub covers : Covers cover old
+
+  -- the clauses are two, and the second covers the first
+  pub record CanGoFor (gone by : LiveClause) : Type 0 where
+    pub apart : gone.number ≢ by.number
+    pub covering : IsCovering gone.entry by.entry
 
   -- clause `gone` may go for clause `by`, if no worker pushes it
   pub record MayGo (clauses : List ClauseEntry) (gone by : ℕ) : Type 0 where

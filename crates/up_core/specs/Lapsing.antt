@@ -1,5 +1,5 @@
 -- Failed pushes that a clause makes invalid, since it refutes the state that their step begins in.
-use Rattle.std.specs.Prelude.{◌≡◌, ℕ, ◌+◌, ◌^◌, ◌<◌, ◌≤◌, List, [], ◌∷◌, ◌++◌, length, Option, None, Some, slice_get, ◌⊎◌}
+use Rattle.std.specs.Prelude.{◌≡◌, ℕ, ◌+◌, ◌^◌, ◌<◌, ◌≤◌, List, [], ◌∷◌, ◌++◌, length, Option, None, Some, slice_get, true, ◌⊎◌}
 use Rattle.fo_core.specs.declared.signature.Sig.{Sig}
 use Rattle.fo_core.specs.declared.world.World.{World}
 use Rattle.up_diagram.specs.declared.cube.Cube.{Cube}
@@ -41,9 +41,10 @@ module _ (history : List Event) (sig : Sig) (cube : Cube) (low high : ℕ) where
   abbrev pub AreLapsed : List ClauseEntry → List ClauseEntry → Type 0
   AreLapsed old new = Pairs old new (λ k e f. IsLapsed e f)
 
-  -- the worlds of failed pushes may be tried against the cube
-  abbrev pub CanLapse : ClauseEntry → Type 0
-  CanLapse e = (place : ℕ) → e.failed ≡ Some place → CanHit history sig cube place
+  -- the world of a failed push may be tried against the cube, and its clause is live
+  pub record CanLapse (e : ClauseEntry) : Type 0 where
+    pub meet : (place : ℕ) → e.failed ≡ Some place → CanHit history sig cube place
+    pub live : (place : ℕ) → e.failed ≡ Some place → e.live ≡ true
 
   abbrev pub AreLapsable : List ClauseEntry → Type 0
   AreLapsable es = (k : ℕ) (e : ClauseEntry) → slice_get es k ≡ Some e → CanLapse e

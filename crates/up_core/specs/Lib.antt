@@ -8,8 +8,10 @@ pub mod Known
 pub mod Lapsing
 pub mod Listing
 pub mod Mirror
+pub mod Places
 pub mod Refuting
 pub mod Room
+pub mod Shared
 pub mod Steps
 pub mod Taking
 pub mod Telling

@@ -1,7 +1,5 @@
 -- Room for entries, of which event calls take no further memory.
 use Rattle.std.specs.Prelude.{◌≡◌, ℕ, ◌+◌, ◌≤◌, length, sum, Option, None, Some, ⊤}
-use Rattle.std.specs.Global.{Vec}
-use Rattle.std.specs.Vec.{vec_len, vec_capacity}
 use Rattle.fo_core.specs.declared.world.World.{World}
 use Rattle.up_machine.specs.declared.event.Event.{Event}
 use Rattle.up_machine.specs.declared.event.Event.TheVariants as E
@@ -9,14 +7,11 @@ use Rattle.up_machine.specs.declared.event.Origin.TheVariants as O
 use Rattle.up_machine.specs.Machine.{Clause, Obligation, Given, Work, Look, Push, Trace, Held, Machine}
 use Rattle.up_machine.specs.Sound.{Each}
 use Rattle.up_core.specs.declared.state.State.{State}
-
--- n further elements fit without memory
-abbrev pub HasRoom : {X : Type 0} → ℕ → Vec X → Type 0
-HasRoom n xs = vec_len xs + n ≤ vec_capacity xs
+pub use Rattle.up_core.specs.Keeping.{HasRoom}
 
 -- n further clauses, obligations and jobs fit
 pub record HasSpare (n : ℕ) (s : State) : Type 0 where
-  pub clauses : HasRoom n s.clauses
+  pub clauses : n ≤ s.clauses.room
   pub obligations : HasRoom n s.obligations
   pub jobs : HasRoom n s.jobs
 

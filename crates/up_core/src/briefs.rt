@@ -13,6 +13,7 @@ ghost use Rattle.up_core.specs.Mirror.{IsWorldAt, world_of};
 ghost use Rattle.up_core.specs.Taking.{HasOnlyTakesSince};
 ghost use Rattle.up_core.specs.View.{now};
 
+use crate::clauses::Clauses;
 use crate::frames::{copy_cube_at, copy_cubes};
 use crate::kept::Core;
 use crate::lists::job_of;
@@ -107,10 +108,10 @@ fn copy_frame(
     alloc: Global,
     history: &[Event],
     level: u32,
-    clauses: &[ClauseEntry],
+    clauses: &Clauses,
 ) -> Result<Seq<Cube>, AllocError>
     ensures { IfOk result (λ cubes. cubes ≡
-        cubes_in (frame_at level (listed history.now level clauses.now))) }
+        cubes_in (frame_at level (listed history.now level clauses.now.items))) }
 {
     if level == 0 {
         return Ok(Seq::new(alloc));
@@ -122,11 +123,11 @@ fn copy_frame(
 fn brief_work(
     alloc: Global,
     history: &[Event],
-    clauses: &[ClauseEntry],
+    clauses: &Clauses,
     k: u32,
     entry: ObligationEntry,
 ) -> Result<Brief, AllocError>
-    ensures { IfOk result (λ brief. brief ≡ work_brief history.now clauses.now k entry) }
+    ensures { IfOk result (λ brief. brief ≡ work_brief history.now clauses.now.items k entry) }
 {
     Ok(Brief {
         job: Job::Work(k),
@@ -153,7 +154,7 @@ fn brief_look(
     Ok(Brief {
         job: Job::Look,
         level,
-        frame: copy_cubes(alloc, history, level, state.clauses.as_slice())?,
+        frame: copy_cubes(alloc, history, level, &state.clauses)?,
         avoid: states_to_avoid(alloc, sig, history, level, obligations)?,
         world: None,
         cube: None,
@@ -164,11 +165,11 @@ fn brief_look(
 fn brief_push(
     alloc: Global,
     history: &[Event],
-    clauses: &[ClauseEntry],
+    clauses: &Clauses,
     k: u32,
     entry: ClauseEntry,
 ) -> Result<Brief, AllocError>
-    ensures { IfOk result (λ brief. brief ≡ push_brief history.now clauses.now k entry) }
+    ensures { IfOk result (λ brief. brief ≡ push_brief history.now clauses.now.items k entry) }
 {
     Ok(Brief {
         job: Job::Push(k),
@@ -212,12 +213,12 @@ fn clause_at(clauses: &[ClauseEntry], k: u32) -> Option<ClauseEntry>
 fn work_now(
     alloc: Global,
     history: &[Event],
-    clauses: &[ClauseEntry],
+    clauses: &Clauses,
     obligations: &[ObligationEntry],
     k: u32,
 ) -> Result<Option<Brief>, AllocError>
     ensures { IfOk result (λ brief. brief ≡
-        option_map (work_brief history.now clauses.now k) (slice_get obligations.now k)) }
+        option_map (work_brief history.now clauses.now.items k) (slice_get obligations.now k)) }
 {
     match obligation_at(obligations, k) {
         Some(entry) => Ok(Some(brief_work(alloc, history, clauses, k, entry)?)),
@@ -229,13 +230,13 @@ fn work_now(
 fn push_now(
     alloc: Global,
     history: &[Event],
-    clauses: &[ClauseEntry],
+    clauses: &Clauses,
     k: u32,
 ) -> Result<Option<Brief>, AllocError>
     ensures { IfOk result (λ brief. brief ≡
-        option_map (push_brief history.now clauses.now k) (slice_get clauses.now k)) }
+        option_map (push_brief history.now clauses.now.items k) (slice_get clauses.now.items k)) }
 {
-    match clause_at(clauses, k) {
+    match clause_at(clauses.entries(), k) {
         Some(entry) => Ok(Some(brief_push(alloc, history, clauses, k, entry)?)),
         None => Ok(None),
     }
@@ -262,7 +263,7 @@ fn brief_for(
     requires { AreDescribable sig.now history.now state.now.obligations.items }
     ensures { IfOk result (λ brief. brief ≡ brief_at sig.now history.now state.now job) }
 {
-    let clauses = state.clauses.as_slice();
+    let clauses = &state.clauses;
     let obligations = state.obligations.as_slice();
     match job {
         Job::Work(k) => work_now(alloc, history, clauses, obligations, k),

@@ -10,7 +10,7 @@ ghost use Rattle.up_core.specs.Room.{HasRoom, HasSpare};
 ghost use Rattle.up_core.specs.Steps.{change_where, entry_before, failed_entry, gone_entry, others_of, progress_of, push_in, with_progress, work_in};
 
 use crate::lists::{push_of, release, set_progress, work_of};
-use crate::state::{ClauseEntry, ObligationEntry, Progress, State};
+use crate::state::{ObligationEntry, Progress, State};
 use up_machine::Origin;
 
 /// The entry of a step before the obligation at a place, if one is given that is there.
@@ -55,31 +55,6 @@ fn push_if(obligations: &mut Vec<ObligationEntry>, entry: Option<ObligationEntry
 {
     if let Some(entry) = entry {
         obligations.push_reserved(entry);
-    }
-}
-
-/// Sets the valid failed push of the clause at a place, if one is given that is there.
-fn set_failed(clauses: &mut Vec<ClauseEntry>, place: Option<usize>, found: usize)
-    ensures items { clauses.new.items ≡
-        change_where place (failed_entry found) clauses.old.items }
-    ensures room { (n : ℕ) → HasRoom n clauses.old → HasRoom n clauses.new }
-{
-    if let Some(k) = place {
-        if k < clauses.len() {
-            clauses[k].failed = Some(found);
-        }
-    }
-}
-
-/// The clause at a place goes, if it is there.
-fn set_gone(clauses: &mut Vec<ClauseEntry>, place: usize)
-    ensures items { clauses.new.items ≡ change_at place gone_entry clauses.old.items }
-    ensures room { (n : ℕ) → HasRoom n clauses.old → HasRoom n clauses.new }
-{
-    if place < clauses.len() {
-        let entry = &mut clauses[place];
-        entry.live = false;
-        entry.failed = None;
     }
 }
 
@@ -173,7 +148,7 @@ impl State {
         ensures room { (n : ℕ) → HasSpare n self.old → HasSpare n self.new }
     {
         let push = push_of(self.jobs.as_slice(), worker);
-        set_failed(&mut self.clauses, push, found);
+        self.clauses.fail(push, found);
         release(&mut self.jobs, worker);
         self.productive += 1;
     }
@@ -186,6 +161,6 @@ impl State {
             s.frontier s.secure s.calm s.productive s.ended }
         ensures room { (n : ℕ) → HasSpare n self.old → HasSpare n self.new }
     {
-        set_gone(&mut self.clauses, gone);
+        self.clauses.retire(gone);
     }
 }

@@ -1,10 +1,11 @@
 //! Which clause may go, since another covers it.
 
-ghost use Rattle.std.specs.Prelude.{◌≡◌, ◌↔◌, ◌<◌, ◌^◌, ℕ, IfOk, IfSome, IsTrue, MatchOption, length};
+ghost use Rattle.std.specs.Prelude.{◌≡◌, ◌↔◌, ◌<◌, ◌^◌, ℕ, IfOk, IfSome, IsTrue, MatchOption, Some, length, slice_get};
 ghost use Rattle.up_machine.specs.Rounds.{IsFirstCover};
-ghost use Rattle.up_core.specs.Covering.{AllCanCover, CanCover, IsCovering, IsFirstBy, IsFoundPair, MayGo};
+ghost use Rattle.up_core.specs.Covering.{AllCanCover, CanCover, IsCovering, IsFirstBy, IsFoundPair, CanGoFor};
 ghost use Rattle.up_core.specs.View.{MayRetire, now};
 
+use crate::clauses::{Clauses, LiveClause};
 use crate::kept::Core;
 use crate::refuting::cube_at;
 use crate::state::{ClauseEntry, JobEntry};
@@ -35,45 +36,38 @@ fn is_covering(history: &[Event], gone: &ClauseEntry, by: &ClauseEntry, picks: &
 }
 
 /// Whether the clause `gone` may go for the clause `by`, if no worker pushes it.
-fn may_go(
-    history: &[Event],
-    clauses: &[ClauseEntry],
-    gone: usize,
-    by: usize,
-    picks: &mut Picks,
-) -> bool
-    requires gone { gone < length clauses.now }
-    requires by { by < length clauses.now }
-    requires cover { AllCanCover history.now picks.old clauses.now }
-    ensures go { IsTrue result ↔ MayGo history.now clauses.now gone by }
+fn may_go(history: &[Event], gone: &LiveClause, by: &LiveClause, picks: &mut Picks) -> bool
+    requires { CanCover history.now picks.old by.now.entry }
+    ensures go { IsTrue result ↔ CanGoFor history.now gone.now by.now }
     ensures room { picks.new ≡ picks.old }
 {
-    if gone == by {
+    if gone.number == by.number {
         return false;
     }
-    is_covering(history, &clauses[gone], &clauses[by], picks)
+    is_covering(history, &gone.entry, &by.entry, picks)
 }
 
 /// The first clause for which this one may go.
 fn first_by(
     history: &[Event],
-    clauses: &[ClauseEntry],
+    clauses: &Clauses,
     jobs: &[JobEntry],
-    gone: usize,
+    gone: &LiveClause,
     picks: &mut Picks,
 ) -> Option<usize>
-    requires within { gone < length clauses.now }
-    requires cover { AllCanCover history.now picks.old clauses.now }
-    ensures first { IsFirstBy history.now clauses.now jobs.now gone result }
-    ensures within { IfSome result (λ by. by < length clauses.now) }
+    requires there { slice_get clauses.now.items gone.now.number ≡ Some gone.now.entry }
+    requires cover { AllCanCover history.now picks.old clauses.now.items }
+    ensures first { IsFirstBy history.now clauses.now.items jobs.now gone.now.number result }
+    ensures within { IfSome result (λ by. by < length clauses.now.items) }
     ensures room { picks.new ≡ picks.old }
 {
-    if push_is_out(jobs, gone) {
+    if push_is_out(jobs, gone.number) {
         return None;
     }
-    'each: for by in 0..clauses.len() {
-        if may_go(history, clauses, gone, by, picks) {
-            return Some(by);
+    'each: for at in 0..clauses.count_live() {
+        let by = clauses.live_at(at);
+        if may_go(history, gone, &by, picks) {
+            return Some(by.number);
         }
     }
     None
@@ -82,19 +76,20 @@ fn first_by(
 /// The first pair of clauses of which the one may go for the other.
 fn first_pair(
     history: &[Event],
-    clauses: &[ClauseEntry],
+    clauses: &Clauses,
     jobs: &[JobEntry],
     picks: &mut Picks,
 ) -> Option<Cover>
-    requires small { length clauses.now < 2 ^ 32 }
-    requires cover { AllCanCover history.now picks.old clauses.now }
-    ensures found { IsFoundPair history.now clauses.now jobs.now result }
+    requires small { length clauses.now.items < 2 ^ 32 }
+    requires cover { AllCanCover history.now picks.old clauses.now.items }
+    ensures found { IsFoundPair history.now clauses.now.items jobs.now result }
     ensures room { picks.new ≡ picks.old }
 {
-    'each: for gone in 0..clauses.len() {
-        if let Some(by) = first_by(history, clauses, jobs, gone, picks) {
+    'each: for at in 0..clauses.count_live() {
+        let gone = clauses.live_at(at);
+        if let Some(by) = first_by(history, clauses, jobs, &gone, picks) {
             return Some(Cover {
-                gone: gone as u32,
+                gone: gone.number as u32,
                 by: by as u32,
             });
         }
@@ -114,8 +109,8 @@ impl Core {
             return Ok(None);
         }
         let mut picks = Picks::new(alloc, self.variables)?;
-        let clauses = self.state.clauses.as_slice();
+        let history = self.history.as_slice();
         let jobs = self.state.jobs.as_slice();
-        Ok(first_pair(self.history.as_slice(), clauses, jobs, &mut picks))
+        Ok(first_pair(history, &self.state.clauses, jobs, &mut picks))
     }
 }

@@ -7,6 +7,7 @@ ghost use Rattle.up_core.specs.Listing.{AreUnmet, cube_from, listed};
 ghost use Rattle.up_core.specs.Mirror.{cube_of};
 ghost use Rattle.up_core.specs.View.{now};
 
+use crate::clauses::Clauses;
 use crate::kept::Core;
 use crate::refuting::cube_at;
 use crate::state::ClauseEntry;
@@ -55,13 +56,14 @@ pub(crate) fn copy_cubes(
     alloc: Global,
     history: &[Event],
     level: u32,
-    clauses: &[ClauseEntry],
+    clauses: &Clauses,
 ) -> Result<Seq<Cube>, AllocError>
-    ensures { IfOk result (λ cubes. cubes ≡ listed history.now level clauses.now) }
+    ensures { IfOk result (λ cubes. cubes ≡ listed history.now level clauses.now.items) }
 {
     let mut cubes = Seq::new(alloc);
-    'each: for entry in clauses {
-        push_from(alloc, history, level, entry, &mut cubes)?;
+    'each: for at in 0..clauses.count_live() {
+        let clause = clauses.live_at(at);
+        push_from(alloc, history, level, &clause.entry, &mut cubes)?;
     }
     Ok(cubes)
 }
@@ -77,6 +79,6 @@ impl Core {
         ensures unmet { 1 ≤ level → IfOk result (λ cubes. AreUnmet self.now.sys level cubes) }
     {
         let history = self.history.as_slice();
-        copy_cubes(alloc, history, level, self.state.clauses.as_slice())
+        copy_cubes(alloc, history, level, &self.state.clauses)
     }
 }

@@ -18,7 +18,7 @@ pub struct Basis {
 
 impl KeptValue for Core {
     ghost use Rattle.up_machine.specs.Replay.{worker_of};
-    ghost use Rattle.up_core.specs.Keeping.{basis_of};
+    ghost use Rattle.up_core.specs.Shared.{basis_of};
 
     type Base = Basis;
 

@@ -3,6 +3,7 @@
 
 ghost use Rattle.std.specs.Prelude.{◌≡◌, ◌≤◌, ◌↔◌, IsTrue, length};
 ghost use Rattle.up_core.specs.Lapsing.{AreLapsable, AreLapsed, CanHit, CanLapse, IsHit, IsLapsed, IsWorldHit};
+ghost use Rattle.up_core.specs.Places.{live_of};
 
 use crate::refuting::world_at;
 use crate::state::ClauseEntry;
@@ -67,16 +68,22 @@ fn lapse_entry(lapse: &Lapse, entry: &mut ClauseEntry, picks: &mut Picks)
     }
 }
 
-/// Takes away the failed pushes that are hit.
-pub(crate) fn lapse_all(lapse: &Lapse, clauses: &mut [ClauseEntry], picks: &mut Picks)
+/// Takes away the failed pushes that are hit, of the live clauses of these numbers.
+pub(crate) fn lapse_all(
+    lapse: &Lapse,
+    entries: &mut [ClauseEntry],
+    live: &[usize],
+    picks: &mut Picks,
+)
+    requires live { live.now ≡ live_of entries.old }
     requires meet { AreLapsable lapse.now.history.now lapse.now.sig.now lapse.now.cube.now
-        lapse.now.low lapse.now.high clauses.old }
+        lapse.now.low lapse.now.high entries.old }
     requires room { length lapse.now.cube.now.sorts ≤ picks.old }
     ensures lapsed { AreLapsed lapse.now.history.now lapse.now.sig.now lapse.now.cube.now
-        lapse.now.low lapse.now.high clauses.old clauses.new }
+        lapse.now.low lapse.now.high entries.old entries.new }
     ensures room { picks.new ≡ picks.old }
 {
-    'each: for k in 0..clauses.len() {
-        lapse_entry(lapse, &mut clauses[k], picks);
+    'each: for k in live {
+        lapse_entry(lapse, &mut entries[*k], picks);
     }
 }

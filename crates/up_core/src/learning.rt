@@ -4,10 +4,11 @@ ghost use Rattle.std.specs.Prelude.{◌≡◌, ℕ, ◌+◌, ◌<◌, ◌≤◌,
 ghost use Rattle.up_core.specs.Becoming.{IsState};
 ghost use Rattle.up_core.specs.Lapsing.{AreLapsable, AreLapsedAbove, CanRise, IsLearnt, IsRaised};
 ghost use Rattle.up_core.specs.Refuting.{pushed_in};
-ghost use Rattle.up_core.specs.Room.{HasRoom, HasSpare};
-ghost use Rattle.up_core.specs.Steps.{change_where, finished, others_of, push_in, raised_entry, work_in};
+ghost use Rattle.up_core.specs.Room.{HasSpare};
+ghost use Rattle.up_core.specs.Steps.{finished, others_of, push_in, work_in};
 
-use crate::lapsing::{Lapse, lapse_all};
+use crate::clauses::Clauses;
+use crate::lapsing::Lapse;
 use crate::lists::{finish_at, push_of, release, work_of};
 use crate::refuting::{cube_at, pushed_entry};
 use crate::state::{ClauseEntry, State};
@@ -21,12 +22,14 @@ fn lapse_above(
     history: &[Event],
     sig: &Sig,
     entry: &ClauseEntry,
-    clauses: &mut [ClauseEntry],
+    clauses: &mut Clauses,
     picks: &mut Picks,
 )
-    requires { CanRise history.now sig.now picks.old clauses.old entry.now }
-    ensures lapsed { AreLapsedAbove history.now sig.now clauses.old clauses.new entry.now }
-    ensures room { picks.new ≡ picks.old }
+    requires { CanRise history.now sig.now picks.old clauses.old.items entry.now }
+    ensures lapsed { AreLapsedAbove history.now sig.now clauses.old.items clauses.new.items
+        entry.now }
+    ensures room { clauses.new.room ≡ clauses.old.room }
+    ensures picks { picks.new ≡ picks.old }
 {
     if let Some(cube) = cube_at(history, entry.learnt) {
         let level = entry.level + 1;
@@ -37,21 +40,7 @@ fn lapse_above(
             low: level,
             high: level,
         };
-        lapse_all(&lapse, clauses, picks);
-    }
-}
-
-/// The clause at a place, if one is given that is there, rises to this level.
-fn raise_to(clauses: &mut Vec<ClauseEntry>, place: Option<usize>, level: u32)
-    ensures items { clauses.new.items ≡ change_where place (raised_entry level) clauses.old.items }
-    ensures room { (n : ℕ) → HasRoom n clauses.old → HasRoom n clauses.new }
-{
-    if let Some(k) = place {
-        if k < clauses.len() {
-            let entry = &mut clauses[k];
-            entry.level = level;
-            entry.failed = None;
-        }
+        clauses.lapse(&lapse, picks);
     }
 }
 
@@ -61,16 +50,17 @@ fn rise(
     sig: &Sig,
     entry: &ClauseEntry,
     place: Option<usize>,
-    clauses: &mut Vec<ClauseEntry>,
+    clauses: &mut Clauses,
     picks: &mut Picks,
 )
     requires { CanRise history.now sig.now picks.old clauses.old.items entry.now }
-    ensures raised { IsRaised history.now sig.now place clauses.old.items clauses.new.items entry.now }
-    ensures room { (n : ℕ) → HasRoom n clauses.old → HasRoom n clauses.new }
+    ensures raised { IsRaised history.now sig.now place clauses.old.items clauses.new.items
+        entry.now }
+    ensures room { clauses.new.room ≡ clauses.old.room }
     ensures picks { picks.new ≡ picks.old }
 {
-    lapse_above(history, sig, entry, clauses.as_mut_slice(), picks);
-    raise_to(clauses, place, entry.level + 1);
+    lapse_above(history, sig, entry, clauses, picks);
+    clauses.raise(place, entry.level + 1);
 }
 
 impl State {
@@ -90,7 +80,7 @@ impl State {
         ensures picks { picks.new ≡ picks.old }
     {
         let place = push_of(self.jobs.as_slice(), worker);
-        let pushed = pushed_entry(self.clauses.as_slice(), self.jobs.as_slice(), worker);
+        let pushed = pushed_entry(self.clauses.entries(), self.jobs.as_slice(), worker);
         if let Some(entry) = pushed {
             rise(history, sig, &entry, place, &mut self.clauses, picks);
         }
@@ -136,13 +126,8 @@ impl State {
         ensures room { (n : ℕ) → HasSpare (n + 1) self.old → HasSpare n self.new }
         ensures picks { picks.new ≡ picks.old }
     {
-        lapse_all(lapse, self.clauses.as_mut_slice(), picks);
-        self.clauses.push_reserved(ClauseEntry {
-            learnt: found,
-            level: lapse.high,
-            live: true,
-            failed: None,
-        });
+        self.clauses.lapse(lapse, picks);
+        self.clauses.push(found, lapse.high);
         let work = work_of(self.jobs.as_slice(), worker);
         finish_at(&mut self.obligations, work);
         release(&mut self.jobs, worker);

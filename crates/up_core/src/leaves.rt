@@ -149,6 +149,6 @@ pub(crate) fn leaves_of(
     requires each { CanTellLeaves history.now state.now }
     ensures { IfOk result (λ leaves. AreLeavesBy history.now state.now leaves) }
 {
-    let marks = marks_of(alloc, state.frontier, state.clauses.as_slice())?;
+    let marks = marks_of(alloc, state.frontier, state.clauses.entries())?;
     leaves_by(alloc, history, marks.as_slice())
 }

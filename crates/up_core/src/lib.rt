@@ -5,6 +5,7 @@
 mod brief_laws;
 mod briefs;
 mod bringing;
+mod clauses;
 mod covering;
 mod events;
 mod frames;

@@ -5,6 +5,7 @@ ghost use Rattle.std.specs.Option.{option_and_then};
 ghost use Rattle.up_core.specs.Mirror.{cube_of, world_of};
 ghost use Rattle.up_core.specs.Refuting.{AreTriable, AreTriableForOwn, CanTry, IsFirstBelow, IsFirstMet, IsFirstOwn, IsFirstPushed, IsMetAt, IsRefuting, own_in, pushed_in};
 
+use crate::clauses::Clauses;
 use crate::lists::{push_of, work_of};
 use crate::state::{ClauseEntry, JobEntry, ObligationEntry, State};
 use fo_core::{Sig, World};
@@ -57,20 +58,21 @@ fn refutes(
 /// The first clause that does.
 pub(crate) fn first_refuter(
     history: &[Event],
-    clauses: &[ClauseEntry],
+    clauses: &Clauses,
     sig: &Sig,
     w: &World,
     level: u32,
     picks: &mut Picks,
 ) -> Option<usize>
-    requires { AreTriable history.now sig.now w.now picks.old clauses.now }
-    ensures first { IsFirstMet history.now sig.now w.now level clauses.now result }
-    ensures within { IfSome result (λ k. k < length clauses.now) }
+    requires { AreTriable history.now sig.now w.now picks.old clauses.now.items }
+    ensures first { IsFirstMet history.now sig.now w.now level clauses.now.items result }
+    ensures within { IfSome result (λ k. k < length clauses.now.items) }
     ensures room { picks.new ≡ picks.old }
 {
-    'each: for (k, entry) in clauses.iter().enumerate() {
-        if refutes(history, entry, sig, w, level, picks) {
-            return Some(k);
+    'each: for at in 0..clauses.count_live() {
+        let clause = clauses.live_at(at);
+        if refutes(history, &clause.entry, sig, w, level, picks) {
+            return Some(clause.number);
         }
     }
     None
@@ -120,8 +122,7 @@ pub(crate) fn own_refuter(
     match own_entry(state.obligations.as_slice(), state.jobs.as_slice(), worker) {
         Some(entry) => match world_at(history, entry.found) {
             Some(world) => {
-                let clauses = state.clauses.as_slice();
-                first_refuter(history, clauses, sig, world, entry.level, picks)
+                first_refuter(history, &state.clauses, sig, world, entry.level, picks)
             }
             None => None,
         },
@@ -143,8 +144,7 @@ pub(crate) fn seed_refuter(
     ensures within { IfSome result (λ k. k < length state.now.clauses.items) }
     ensures room { picks.new ≡ picks.old }
 {
-    let clauses = state.clauses.as_slice();
-    first_refuter(history, clauses, sig, w, state.frontier, picks)
+    first_refuter(history, &state.clauses, sig, w, state.frontier, picks)
 }
 
 /// The first clause that refutes a step before the obligation that the worker works on, in the
@@ -167,8 +167,7 @@ pub(crate) fn step_refuter(
             if entry.level < 2 {
                 return None;
             }
-            let clauses = state.clauses.as_slice();
-            first_refuter(history, clauses, sig, w, entry.level - 1, picks)
+            first_refuter(history, &state.clauses, sig, w, entry.level - 1, picks)
         }
         None => None,
     }
@@ -202,11 +201,8 @@ pub(crate) fn fail_refuter(
     ensures within { IfSome result (λ k. k < length state.now.clauses.items) }
     ensures room { picks.new ≡ picks.old }
 {
-    match pushed_entry(state.clauses.as_slice(), state.jobs.as_slice(), worker) {
-        Some(entry) => {
-            let clauses = state.clauses.as_slice();
-            first_refuter(history, clauses, sig, w, entry.level, picks)
-        }
+    match pushed_entry(state.clauses.entries(), state.jobs.as_slice(), worker) {
+        Some(entry) => { first_refuter(history, &state.clauses, sig, w, entry.level, picks) }
         None => None,
     }
 }

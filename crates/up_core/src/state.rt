@@ -7,6 +7,7 @@ ghost use Rattle.up_machine.specs.Machine.{start};
 ghost use Rattle.up_core.specs.Mirror.{IsMirror};
 ghost use Rattle.up_core.specs.Room.{HasSpare, HaveSameLists};
 
+use crate::clauses::Clauses;
 use std::alloc::{AllocError, Global};
 use up_machine::Job;
 
@@ -61,7 +62,7 @@ pub(crate) struct JobEntry {
 /// The state as numbers.
 #[derive(Drop)]
 pub(crate) struct State {
-    pub clauses: Vec<ClauseEntry>,
+    pub clauses: Clauses,
     pub obligations: Vec<ObligationEntry>,
     pub jobs: Vec<JobEntry>,
     /// The last frame.
@@ -83,7 +84,7 @@ impl State {
         ensures room { HasSpare 0 result }
     {
         State {
-            clauses: Vec::new(alloc),
+            clauses: Clauses::new(alloc),
             obligations: Vec::new(alloc),
             jobs: Vec::new(alloc),
             frontier: 1,

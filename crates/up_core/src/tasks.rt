@@ -197,7 +197,7 @@ impl State {
         ensures { (sys : System) (limits : Limits) (history : List Event) (m : Machine) →
             IsMirror sys history m self.now → IsChoice (by_closed_level sys limits m) result }
     {
-        match closed_level(self.clauses.as_slice(), self.secure) {
+        match closed_level(self.clauses.entries(), self.secure) {
             Some(level) => Some(Task::Finish(Short::Safe(level))),
             None => None,
         }
@@ -283,7 +283,7 @@ impl State {
         ensures { (sys : System) (limits : Limits) (history : List Event) (m : Machine) →
             IsMirror sys history m self.now → IsChoice (by_clause sys limits m) result }
     {
-        let clauses = self.clauses.as_slice();
+        let clauses = self.clauses.entries();
         match next_push(clauses, self.jobs.as_slice(), self.frontier) {
             Some(k) => Some(Task::Job(Job::Push(k as u32))),
             None => None,

@@ -7,6 +7,7 @@ ghost use Rattle.up_machine.specs.Told.{Told};
 ghost use Rattle.up_core.specs.Telling.{CanTell, CanTellLeaves, IsVerdictBy, IsVerdictOf, last_of, told_clauses as clauses_told, told_from};
 ghost use Rattle.up_core.specs.View.{now};
 
+use crate::clauses::Clauses;
 use crate::frames::copy_cube_at;
 use crate::kept::Core;
 use crate::leaves::leaves_of;
@@ -45,15 +46,16 @@ fn told_clauses(
     alloc: Global,
     history: &[Event],
     level: u32,
-    entries: &[ClauseEntry],
+    clauses: &Clauses,
 ) -> Result<Seq<Kept>, AllocError>
-    ensures { IfOk result (λ clauses. clauses ≡ clauses_told history.now level entries.now) }
+    ensures { IfOk result (λ told. told ≡ clauses_told history.now level clauses.now.items) }
 {
-    let mut clauses = Seq::new(alloc);
-    'each: for entry in entries {
-        push_told(alloc, history, level, entry, &mut clauses)?;
+    let mut told = Seq::new(alloc);
+    'each: for at in 0..clauses.count_live() {
+        let clause = clauses.live_at(at);
+        push_told(alloc, history, level, &clause.entry, &mut told)?;
     }
-    Ok(clauses)
+    Ok(told)
 }
 
 /// What a bounded run tells: all live clauses, and for each frame up to the frontier its leave.
@@ -64,7 +66,7 @@ fn told_bounded(alloc: Global, history: &[Event], state: &State) -> Result<Verdi
         IfOk result (λ verdict. IsVerdictBy sig history.now state.now w Bounded verdict) }
 {
     let leaves = leaves_of(alloc, history, state)?;
-    let clauses = told_clauses(alloc, history, 0, state.clauses.as_slice())?;
+    let clauses = told_clauses(alloc, history, 0, &state.clauses)?;
     Ok(Verdict::Bounded(state.frontier, clauses, leaves))
 }
 
@@ -84,7 +86,7 @@ fn told_by(
 {
     match end {
         End::Safe(level) => {
-            let clauses = told_clauses(alloc, history, *level + 1, state.clauses.as_slice())?;
+            let clauses = told_clauses(alloc, history, *level + 1, &state.clauses)?;
             Ok(Verdict::Safe(*level, clauses))
         }
         End::Unsafe(run) => Ok(Verdict::Unsafe(run.copy(alloc)?)),

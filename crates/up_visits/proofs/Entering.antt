@@ -7,7 +7,7 @@ use Rattle.up_machine.specs.Machine.{held_by}
 use Rattle.up_machine.specs.Replay.{replay, worker_of}
 use Rattle.up_jobs.specs.declared.solved.Solved.{Solved}
 use Rattle.up_jobs.specs.Solving.{IsBriefOf, IsSolved}
-use Rattle.up_core.specs.Keeping.{basis_of}
+use Rattle.up_core.specs.Shared.{basis_of}
 use Rattle.up_core.specs.View.{CoreView, now}
 use Rattle.up_seats.specs.Seats.{IsAnswered, IsBriefed}
 use Rattle.up_core.specs.declared.kept_value.Basis.{Basis}

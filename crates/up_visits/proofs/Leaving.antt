@@ -10,7 +10,7 @@ use Rattle.up_machine.specs.declared.brief.Brief.{Brief}
 use Rattle.up_machine.specs.declared.event.Event.{Event}
 use Rattle.up_machine.specs.Legal.{Legal}
 use Rattle.up_machine.specs.Replay.{worker_of}
-use Rattle.up_core.specs.Keeping.{basis_of}
+use Rattle.up_core.specs.Shared.{basis_of}
 use Rattle.up_core.specs.View.{CoreView, now}
 use Rattle.up_seats.specs.Seats.{IsBriefed}
 use Rattle.up_core.specs.declared.kept_value.Basis.{Basis}

@@ -8,7 +8,7 @@ pub returns-in-Some-clause-first : goal.returns-in-Some-clause-first
 returns-in-Some-clause-first c entry is =
     let s = c.args.state.now in
     let w = c.args.worker in
-    let found = c.in-Some.ensures ∙ ap (λ cs. pushed_in w cs c.as_slice-2.result.now) c.as_slice.ensures.value ∙ ap (pushed_in w s.clauses.items) c.as_slice-2.ensures.value in
+    let found = c.in-Some.ensures ∙ ap (λ cs. pushed_in w cs c.as_slice.result.now) c.entries.ensures ∙ ap (pushed_in w s.clauses.items) c.as_slice.ensures.value in
     let same = some_injective c.in-Some.entry entry (found ∙ is) in
     subst (λ (e : ClauseEntry). IsFirstMet c.args.history.now c.args.sig.now c.args.w.now e.level s.clauses.items c.first_refuter.result) same
-    (subst (λ cs. IsFirstMet c.args.history.now c.args.sig.now c.args.w.now c.in-Some.entry.level cs c.first_refuter.result) c.as_slice-clauses.ensures.value c.first_refuter.ensures.first)
+    c.first_refuter.ensures.first

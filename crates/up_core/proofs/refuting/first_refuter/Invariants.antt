@@ -1,11 +1,12 @@
-use Rattle.std.proofs.Common.{◌≡◌, ℕ, ◌<◌, Some, slice_get}
-use Rattle.up_core.specs.declared.state.ClauseEntry.{ClauseEntry}
+use Rattle.std.proofs.Common.{◌≡◌}
+use Rattle.up_core.specs.Places.{is_live}
 use Rattle.up_core.specs.Refuting.{IsRefuting}
+use Rattle.up_core.proofs.Placed.{NoneBefore}
 use Rattle.up_core.proofs.refuting.first_refuter.Given as goal
 
--- no clause before this one refutes the state
+-- no live clause before this one refutes the state
 abbrev pub invariant-each : goal.invariant-each
 invariant-each l = record {
-  none : (k : ℕ) (e : ClauseEntry) → k < l.k → slice_get l.clauses k ≡ Some e → ¬ IsRefuting l.history l.sig l.w l.level e;
+  none : NoneBefore is_live l.clauses.items (λ _ e. IsRefuting l.history l.sig l.w l.level e) (λ _ e r. r.live) l.at;
   room : l.picks ≡ l.fn.picks;
 }

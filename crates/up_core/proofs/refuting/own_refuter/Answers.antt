@@ -1,4 +1,4 @@
-use Rattle.std.proofs.Common.{◌≡◌, Some, slice_get, refl, sym, ap, subst, ◌∙◌}
+use Rattle.std.proofs.Common.{refl, sym, ap, ◌∙◌}
 use Rattle.up_core.specs.Refuting.{IsOwn, own_in}
 use Rattle.up_core.proofs.refuting.own_refuter.Goals as goal
 
@@ -12,4 +12,4 @@ first_refuter-requires c k e there =
       world_is = sym c.in-Some-world_at.ensures;
       level_is = refl;
     } in
-    c.requires c.in-Some-world_at.world.now c.in-Some.entry.level own k e (subst (λ es. slice_get es k ≡ Some e) c.as_slice-clauses.ensures.value there)
+    c.requires c.in-Some-world_at.world.now c.in-Some.entry.level own k e there

@@ -12,7 +12,7 @@ pub first_pair-requires-clause-small : goal.first_pair-requires-clause-small
 first_pair-requires-clause-small c =
     let x = c.self.inside in
     let small = small-of x.sys x.order x.limits x.history x.state x.spare x.picks x.variables x.widest c.self.invariant in
-    subst (λ es. length es < 4294967296) (sym c.as_slice-clauses.ensures.value) small.clauses
+    small.clauses
 
 pub first_pair-requires-clause-cover : goal.first_pair-requires-clause-cover
 first_pair-requires-clause-cover c =
@@ -20,16 +20,14 @@ first_pair-requires-clause-cover c =
     let core = c.self.invariant in
     let fit = history_fit x.sys x.limits x.history.items core.infer.system core.legal in
     let all = can-cover x.sys x.history.items _ x.state core.mirror x.variables x.widest fit core.picks_for.roomy in
-    subst (λ es. AllCanCover c.as_slice.result.now c.in_ok-picks.picks es) (sym c.as_slice-clauses.ensures.value)
-    (subst (λ h. AllCanCover h c.in_ok-picks.picks x.state.clauses.items) (sym c.as_slice.ensures.value)
-    (subst (λ n. AllCanCover x.history.items n x.state.clauses.items) (sym c.in_ok-picks.ensures) all))
+    subst (λ h. AllCanCover h c.in_ok-picks.picks x.state.clauses.items) (sym c.as_slice-history.ensures.value)
+    (subst (λ n. AllCanCover x.history.items n x.state.clauses.items) (sym c.in_ok-picks.ensures) all)
 
 pub returns : goal.returns
 returns c =
     let x = c.self.inside in
     let core = c.self.invariant in
-    let a = subst (λ h. IsFoundPair h c.as_slice-clauses.result.now c.as_slice-jobs.result.now c.first_pair.result) c.as_slice.ensures.value c.first_pair.ensures.found in
-    let b = subst (λ es. IsFoundPair x.history.items es c.as_slice-jobs.result.now c.first_pair.result) c.as_slice-clauses.ensures.value a in
+    let b = subst (λ h. IsFoundPair h x.state.clauses.items c.as_slice-jobs.result.now c.first_pair.result) c.as_slice-history.ensures.value c.first_pair.ensures.found in
     let d = subst (λ js. IsFoundPair x.history.items x.state.clauses.items js c.first_pair.result) c.as_slice-jobs.ensures.value b in
     subst (λ (v : CoreView). MatchOption c.first_pair.result ((g b : ℕ) → ¬ MayRetire (now v) g b) (λ k. IsFirstCover (now v) k.gone k.by)) c.self.view_is
     (found-cover x.sys x.history.items _ x.state core.mirror c.first_pair.result (open-of x.sys x.order x.limits x.history x.state x.spare x.picks x.variables x.widest c.self.invariant c.if-self.false) d)

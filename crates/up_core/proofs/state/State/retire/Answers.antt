@@ -1,8 +1,9 @@
+use Rattle.std.proofs.Common.{arith}
 use Rattle.up_core.proofs.state.State.retire.Goals as goal
 
 pub returns-clause-room : goal.returns-clause-room
 returns-clause-room c n h = record {
-  clauses = c.set_gone.ensures.room n h.clauses;
+  clauses = omega (arith, h.clauses, c.retire.ensures.room);
   obligations = h.obligations;
   jobs = h.jobs;
 }
