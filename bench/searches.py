@@ -4,14 +4,18 @@
 
 PROGRAM is the proved `updr` (crates/updr/out/updr). The models are the lock server of examples/ and the generated lock
 servers of 1 to 4 relations; each is searched with 1 and with 4 workers, at most SECONDS (300 where it isn't given), and
-the two reports have to be equal. It prints a line a model: seconds with 1 worker and with 4, the status, the numbers of
-the report, and the seconds of `check`, which has to answer `holds`.
+the two reports have to be equal. It prints a line a model: seconds with 1 worker and with 4 and the most memory of both, the
+status, the numbers of the report, and the seconds of `check`, which has to answer `holds`. The line that `demo` prints for a
+generated model has to tell that model's length, the status and the numbers of its report. It ends with status 1 where something
+is otherwise.
 """
 import os
 import subprocess
 import sys
 import tempfile
+import threading
 import time
+from dataclasses import dataclass
 
 HERE = os.path.dirname(os.path.abspath(__file__))
 LOCK_SERVER = os.path.join(HERE, "..", "examples", "lock-server.pyv")
@@ -38,14 +42,29 @@ def model(count):
     )
 
 
+@dataclass
+class Ran:
+    """What the program answered: its status, or None where the time was over; its output; seconds, kilobytes."""
+
+    status: int | None
+    output: str
+    seconds: float
+    memory: int
+
+
 def run(limit, *words):
-    """What the program answers to the words: its status, its output, and the seconds it took; no status past the limit."""
+    """Runs the program on the words, at most so many seconds."""
     begin = time.monotonic()
-    try:
-        done = subprocess.run(words, capture_output=True, text=True, timeout=limit)
-    except subprocess.TimeoutExpired:
-        return None, "", time.monotonic() - begin
-    return done.returncode, done.stdout, time.monotonic() - begin
+    with tempfile.TemporaryFile("w+") as out:
+        process = subprocess.Popen(words, stdout=out)
+        clock = threading.Timer(limit, process.kill)
+        clock.start()
+        _, ended, usage = os.wait4(process.pid, 0)
+        clock.cancel()
+        process.returncode = os.waitstatus_to_exitcode(ended)
+        out.seek(0)
+        status = process.returncode if process.returncode >= 0 else None
+        return Ran(status, out.read(), time.monotonic() - begin, usage.ru_maxrss)
 
 
 def numbers(report):
@@ -54,22 +73,40 @@ def numbers(report):
 
 
 def search(program, name, path, folder, limit):
-    """Searches a model with 1 and with 4 workers, judges the report, and prints the line; gives whether all is well."""
-    status, first, alone = run(limit, program, "updr", path, "--workers", "1")
-    if status is None:
+    """Searches a model with 1 and with 4 workers, judges the report, and prints the line; gives the first answer, and
+    whether all is well."""
+    first = run(limit, program, "updr", path, "--workers", "1")
+    if first.status is None:
         print(f"{name}: past {limit} seconds with one worker")
-        return True
-    other, second, together = run(limit, program, "updr", path, "--workers", "4")
+        return first, True
+    second = run(limit, program, "updr", path, "--workers", "4")
     report = os.path.join(folder, "report")
     with open(report, "w", encoding="utf-8") as out:
-        out.write(first)
-    judged, answer, judging = run(limit, program, "check", path, report)
-    same = (status, first) == (other, second)
+        out.write(first.output)
+    judged = run(limit, program, "check", path, report)
+    same = (first.status, first.output) == (second.status, second.output)
+    holds = judged.output == "holds\n"
     print(
-        f"{name}: 1 worker {alone:.2f} s, 4 workers {together:.2f} s, status {status}, {numbers(first)}, "
-        f"check {answer.strip() or judged} {judging:.2f} s{'' if same else ', REPORTS DIFFER'}",
+        f"{name}: 1 worker {first.seconds:.2f} s {first.memory} KB, 4 workers {second.seconds:.2f} s {second.memory} KB, "
+        f"status {first.status}, {numbers(first.output)}, check {judged.output.strip() or judged.status} "
+        f"{judged.seconds:.2f} s{'' if same else ', REPORTS DIFFER'}",
         flush=True,
     )
+    return first, same and holds
+
+
+def demonstrate(program, count, text, first, limit):
+    """Whether `demo` tells of the model of this many relations what its report does."""
+    if first.status is None:
+        return True
+    productive, frontier, clauses = numbers(first.output).split()[1:]
+    wanted = (
+        f"demo {count} bytes {len(text)} status {first.status} "
+        f"productive {productive} frontier {frontier} clauses {clauses}\n"
+    )
+    ran = run(limit, program, "demo", str(count))
+    same = (ran.status, ran.output) == (first.status, wanted)
+    print(f"demo {count}: {ran.seconds:.2f} s {ran.memory} KB, {'as its report' if same else 'DIFFERS: ' + ran.output}")
     return same
 
 
@@ -80,8 +117,9 @@ def main(program, limit=300):
             path = os.path.join(folder, f"generated-{count}.pyv")
             with open(path, "w", encoding="utf-8") as out:
                 out.write(model(count))
-            well &= search(program, f"generated lock server, {count} relations", path, folder, limit)
-        well &= search(program, "lock server", LOCK_SERVER, folder, limit)
+            first, good = search(program, f"generated lock server, {count} relations", path, folder, limit)
+            well &= good & demonstrate(program, count, model(count), first, limit)
+        well &= search(program, "lock server", LOCK_SERVER, folder, limit)[1]
     return 0 if well else 1
 
 
