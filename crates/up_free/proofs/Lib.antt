@@ -1,0 +1,4 @@
+pub mod Crossing
+pub mod FreeRuns
+pub mod Spreading
+pub mod Visited
