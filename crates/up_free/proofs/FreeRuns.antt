@@ -1,9 +1,7 @@
 -- The run that free workers make.
 use Rattle.std.proofs.Common.{◌≡◌, ℕ, ◌<◌, inl, inr, List, refl, subst}
 use Rattle.std.specs.List.{All}
-use Rattle.fo_core.specs.declared.order.Order.{Order}
 use Rattle.fo_core.specs.declared.system.System.{System}
-use Rattle.fo_core.specs.Sorted.{IsSystem}
 use Rattle.up_claims.specs.Inferring.{CanInfer}
 use Rattle.up_machine.specs.declared.event.Event.{Event}
 use Rattle.up_machine.specs.declared.job.Task.TheVariants as T

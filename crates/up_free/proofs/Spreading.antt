@@ -1,5 +1,5 @@
 -- What the workers of a range leave, through joins and to the end.
-use Rattle.std.proofs.Common.{◌≡◌, ℕ, ◌≤◌, ◌<◌, min, max, List, refl, sym, subst, ◌∙◌, arith}
+use Rattle.std.proofs.Common.{◌≡◌, ℕ, ◌≤◌, min, max, List, sym, subst, ◌∙◌, arith}
 use mathlib.Core.Logic.{dite}
 use native.Mathlib.Decide.{dec_le}
 use Rattle.turnstile.specs.History.{Continues}
@@ -7,7 +7,7 @@ use Rattle.turnstile.specs.Views.{IsOf, IsOutside, HasNumbers}
 use Rattle.up_machine.specs.declared.event.Event.{Event}
 use Rattle.up_machine.specs.Replay.{worker_of}
 use Rattle.up_visits.specs.GivingUp.{GivesUpLast}
-use Rattle.up_visits.specs.Passes.{CorePass, CoreTurnstile, events_of}
+use Rattle.up_visits.specs.Passes.{CorePass, CoreTurnstile}
 use Rattle.up_free.specs.Crew.{EachGivesUpLast, IsSpent}
 
 -- what holds of each worker of a range holds in a history that goes on from what the range has seen

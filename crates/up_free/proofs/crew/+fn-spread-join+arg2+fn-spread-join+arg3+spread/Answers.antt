@@ -1,4 +1,4 @@
-use denote.Param.Send.{arg_send, param_send, param_sync, plain_send, recorded_send, sendable, shr_send, struct_send}
+use denote.Param.Send.{arg_send, param_send, sendable}
 use denote.Param.SendFields.{declared_send}
 use mir.Syntax.{named}
 use denote.Param.{param}
@@ -7,9 +7,8 @@ use denote.Ref.{ShrRef}
 use denote.Struct.Field.{u32-field}
 use denote.Struct.Tuple.{type_at}
 use Rattle.std.proofs.Common.{◌+◌, ◌/◌, ◌∷◌, [], arith}
-use Rattle.std.proofs.Crossing.{crosses, send}
+use Rattle.std.proofs.Crossing.{crosses}
 use Rattle.turnstile.proofs.pass.Pass.TheSendSync as pass
-use Rattle.turnstile.proofs.turnstile.Turnstile.TheSendSync as turnstile
 use Rattle.up_core.proofs.Crossing.{inside_send}
 use Rattle.std.specs.contracts.alloc.Global as Global
 use Rattle.fo_core.specs.contracts.order.Order as Order
