@@ -13,7 +13,7 @@ use Rattle.up_machine.specs.Replay.{worker_of}
 use Rattle.up_machine.proofs.FrameEvents.{history_sound}
 use Rattle.up_machine.proofs.Histories.{legal-first}
 use Rattle.up_core.specs.declared.kept_value.Basis.{Basis}
-use Rattle.up_core.specs.Keeping.{basis_of}
+use Rattle.up_core.specs.Shared.{basis_of}
 use Rattle.up_core.specs.View.{CoreView, now}
 use Rattle.up_seats.proofs.SoundHistories.{closed_sound}
 use Rattle.up_visits.specs.Passes.{HasEnded}

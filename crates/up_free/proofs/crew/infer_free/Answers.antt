@@ -1,7 +1,7 @@
 use denote.Param.Send.{sendable}
 use Rattle.std.proofs.Common.{ap, sym, subst, ◌≡◌, ◌∙◌}
 use Rattle.up_core.specs.declared.kept_value.Basis.{Basis}
-use Rattle.up_core.specs.Keeping.{basis_of}
+use Rattle.up_core.specs.Shared.{basis_of}
 use Rattle.up_core.specs.View.{now}
 use Rattle.up_machine.specs.Due.{IsDue}
 use Rattle.up_free.specs.Crew.{EachGivesUpLast}
