@@ -18,7 +18,7 @@ use Rattle.up_machine.specs.declared.limits.Limits.{Limits}
 use Rattle.up_machine.specs.Briefs.{brief_of, cubes_in}
 use Rattle.up_machine.specs.Due.{job_of}
 use Rattle.up_machine.specs.Finding.{HoldsJob, state_cube, state_cubes}
-use Rattle.up_machine.specs.Machine.{Clause, Obligation, Given, Work, Look, Push, Trace, Machine, cubes_from, frame, is_unfinished_seed, to_avoid, done_seeds}
+use Rattle.up_machine.specs.Machine.{Clause, Obligation, Given, Work, Look, Push, Trace, Machine, cubes_from, is_unfinished_seed, to_avoid, done_seeds}
 use Rattle.up_machine.specs.Replay.{given_work, given_push, given_trace, given_for, replay}
 use Rattle.up_machine.specs.Sound.{IsFit, IsSoundGiven}
 use Rattle.up_machine.proofs.Fit.{history_fit}
@@ -96,7 +96,7 @@ module _ (sys : System) (history : List Event) (m : Machine) (s : State) (mirror
       ∙ ap (λ x. read e.level (cubes_from m.clauses e.level) x) h.cube
       ∙ ap (λ i. read i (cubes_from m.clauses i) (Some c.cube)) (sym h.level)
 
-  trace-same : (n k : ℕ) (o : Obligation) (e : ObligationEntry) → IsObligationOf history o e → trace_brief s.frontier n e ≡ told (given_trace m.frontier n o)
+  trace-same : (n k : ℕ) (o : Obligation) (e : ObligationEntry) → IsObligationOf history o e → trace_brief s.clauses.frontier n e ≡ told (given_trace m.frontier n o)
   trace-same n k o e h =
       ap (λ i. trace_brief i n e) (sym mirror.frontier)
       ∙ ap (λ i. told (Trace n (m.frontier - i))) (sym h.level)
@@ -104,8 +104,8 @@ module _ (sys : System) (history : List Event) (m : Machine) (s : State) (mirror
   look-same : (done : ℕ) → look_brief sys.sig history s ≡ told (Look m.frontier (cubes_from m.clauses m.frontier) (to_avoid m) done)
   look-same done =
       let read : ℕ → List Cube → List Cube → Brief = λ level cubes avoid. record { job = J.Look; level = level; frame = cubes; avoid = avoid; world = None; cube = None } in
-      ap (λ cubes. read s.frontier cubes (avoided sys.sig history s.frontier s.obligations.items)) (lists s.frontier)
-      ∙ ap (λ avoid. read s.frontier (cubes_from m.clauses s.frontier) avoid) (avoided-same sys.sig history s.frontier m.obligations s.obligations.items mirror.obligations)
+      ap (λ cubes. read s.clauses.frontier cubes (avoided sys.sig history s.clauses.frontier s.obligations.items)) (lists s.clauses.frontier)
+      ∙ ap (λ avoid. read s.clauses.frontier (cubes_from m.clauses s.clauses.frontier) avoid) (avoided-same sys.sig history s.clauses.frontier m.obligations s.obligations.items mirror.obligations)
       ∙ ap (λ i. read i (cubes_from m.clauses i) (states sys.sig history i (filter (is_avoided sys.sig history i) m.obligations))) (sym mirror.frontier)
 
   pub brief-is : (job : Job) → brief_at sys.sig history s job ≡ option_map told (given_for m job)
@@ -117,7 +117,7 @@ module _ (sys : System) (history : List Event) (m : Machine) (s : State) (mirror
       at-place m.clauses s.clauses.items (λ k c e. IsClauseOf history sys m k c e) (λ c. told (given_push m.clauses n c)) (push_brief history s.clauses.items n) (push-same n) mirror.clauses n
       ∙ both-maps told (given_push m.clauses n) (slice_get m.clauses n)
   brief-is (J.Trace n) =
-      at-place m.obligations s.obligations.items (λ k o e. IsObligationOf history o e) (λ o. told (given_trace m.frontier n o)) (trace_brief s.frontier n) (trace-same n) mirror.obligations n
+      at-place m.obligations s.obligations.items (λ k o e. IsObligationOf history o e) (λ o. told (given_trace m.frontier n o)) (trace_brief s.clauses.frontier n) (trace-same n) mirror.obligations n
       ∙ both-maps told (given_trace m.frontier n) (slice_get m.obligations n)
 
 module _ (sys : System) (order : Order) (limits : Limits) (history : Vec Event) (s : State) (spare picks variables widest : ℕ) (core : IsCore sys order limits history s spare picks variables widest) where

@@ -1,33 +1,29 @@
 -- The numbers after an event that brings a world or changes a clause are those of the machine after
 -- it.
-use Rattle.std.proofs.Common.{◌≡◌, ℕ, zero, suc, ◌+◌, ◌-◌, Bool, true, false, List, [], ◌∷◌, ◌++◌, length, Option, None, Some, is_some, slice_get, refl, sym, ap, subst, ◌∙◌, Any, inl, inr}
-use Rattle.std.specs.Option.{option_and_then, option_to_list}
+use Rattle.std.proofs.Common.{◌≡◌, ℕ, zero, suc, ◌+◌, ◌-◌, true, List, [], ◌∷◌, ◌++◌, length, Option, None, Some, slice_get, refl, sym, ap, subst, ◌∙◌, inl, inr}
+use Rattle.std.specs.Option.{option_to_list}
 use Rattle.std.specs.Prelude.{option_map}
 use Rattle.fo_core.specs.declared.system.System.{System}
 use Rattle.fo_core.specs.declared.world.World.{World}
 use Rattle.up_machine.specs.declared.event.Event.{Event}
 use Rattle.up_machine.specs.declared.event.Event.TheVariants as E
 use Rattle.up_machine.specs.declared.event.Origin.TheVariants as O
-use Rattle.up_machine.specs.declared.limits.Limits.{Limits}
 use Rattle.up_machine.specs.Due.{IsValid}
 use Rattle.up_machine.specs.Finding.{HoldsWork, HoldsPush}
-use Rattle.up_machine.specs.Legal.{IsLegal, Legal}
-use Rattle.up_machine.specs.Machine.{Clause, Status, Ready, Waiting, Rooted, Obligation, FailedPush, Given, Work, Push, Machine, IsIn, held_by}
-use Rattle.up_machine.specs.Replay.{change_at, first_status, with_status, set_status, after_event, happens, replay}
+use Rattle.up_machine.specs.Machine.{Clause, Ready, Waiting, Rooted, FailedPush, Given, Work, Push, Machine, IsIn}
+use Rattle.up_machine.specs.Replay.{change_at, first_status, set_status, after_event, happens}
 use Rattle.up_machine.specs.Sound.{IsFrameSound}
 use Rattle.up_machine.proofs.FrameEvents.{given_sound}
-use Rattle.up_machine.proofs.Lists.{none_is_some, get-append, get-push, IsPushed, any-of_place, some_injective, two_places}
+use Rattle.up_machine.proofs.Lists.{get-append, get-push, IsPushed, any-of_place, two_places}
 use Rattle.up_machine.proofs.Waiting.{get-last}
 use Rattle.up_core.specs.declared.state.ClauseEntry.{ClauseEntry}
-use Rattle.up_core.specs.declared.state.ObligationEntry.{ObligationEntry}
-use Rattle.up_core.specs.declared.state.Progress.{Progress}
 use Rattle.up_core.specs.declared.state.Progress.TheVariants as P
 use Rattle.up_core.specs.declared.state.State.{State}
 use Rattle.up_core.specs.Becoming.{IsState}
-use Rattle.up_core.specs.Mirror.{Pairs, world_of, IsWorldAt, IsStatusOf, IsObligationOf, IsValidPush, IsValidAt, IsClauseOf, IsJobOf, IsMirror}
+use Rattle.up_core.specs.Mirror.{Pairs, world_of, IsWorldAt, IsStatusOf, IsObligationOf, IsValidPush, IsClauseOf, IsMirror}
 use Rattle.up_core.specs.Steps.{change_where, with_progress, work_in, push_in, others_of, failed_entry, gone_entry, progress_of, before_of, entry_before}
 use Rattle.up_core.proofs.Changing.{change-none}
-use Rattle.up_core.proofs.Grown.{cube-stays, world-stays, clause-stays, obligations-stay}
+use Rattle.up_core.proofs.Grown.{cube-stays, world-stays, obligations-stay}
 use Rattle.up_core.proofs.Marks.{read-last}
 use Rattle.up_core.proofs.Mirrors.{together, kept, left-jobs, has-entry, work-is, push-is, one-more, set-same}
 use Rattle.up_core.proofs.Pairing.{pairs-push, pairs-right, pairs-apart, place-any}
@@ -47,18 +43,18 @@ module _ (sys : System) (history : List Event) (m : Machine) (s t : State) (mirr
 
   -- Seed
   pub seed-next : (w : ℕ) (world : World) →
-      IsState t s.clauses.items (s.obligations.items ++ record { level = s.frontier; found = found; parent = None; progress = P.Ready } ∷ []) (others_of w s.jobs.items) s.frontier s.secure s.calm (s.productive + 1) s.ended →
+      IsState t s.clauses.items (s.obligations.items ++ record { level = s.clauses.frontier; found = found; parent = None; progress = P.Ready } ∷ []) (others_of w s.jobs.items) s.clauses.frontier s.secure s.calm (s.productive + 1) s.ended →
       IsThen (E.Seed w world) (happens m (E.Seed w world))
   seed-next w world is =
       let e = E.Seed w world in
       let n = happens m e in
-      let obligations = pairs-push m.obligations s.obligations.items (λ k o x. IsObligationOf (history ++ e ∷ []) o x) (record { level = m.frontier; world = world; parent = None; status = Ready }) (record { level = s.frontier; found = found; parent = None; progress = P.Ready })
+      let obligations = pairs-push m.obligations s.obligations.items (λ k o x. IsObligationOf (history ++ e ∷ []) o x) (record { level = m.frontier; world = world; parent = None; status = Ready }) (record { level = s.clauses.frontier; found = found; parent = None; progress = P.Ready })
       (obligations-stay history e m.obligations s.obligations.items mirror.obligations) (record { level = mirror.frontier; world = read-last world_of history e; parent = refl; status = refl }) in
       together sys history m s t mirror e n is (kept sys history m s t mirror e n refl refl) obligations (left-jobs sys history m s t mirror w) mirror.frontier mirror.secure mirror.calm (one-more m.productive s.productive mirror.productive) mirror.ended
 
   -- Before with an initial state
   pub root-next : (w : ℕ) (u : World) (work : HoldsWork m w) →
-      IsState t s.clauses.items (change_where (work_in w s.jobs.items) (with_progress (P.Rooted found)) s.obligations.items) (others_of w s.jobs.items) s.frontier s.secure s.calm (s.productive + 1) s.ended →
+      IsState t s.clauses.items (change_where (work_in w s.jobs.items) (with_progress (P.Rooted found)) s.obligations.items) (others_of w s.jobs.items) s.clauses.frontier s.secure s.calm (s.productive + 1) s.ended →
       IsThen (E.Before w (O.Initial u)) (happens m (E.Before w (O.Initial u)))
   root-next w u work is =
       let e = E.Before w (O.Initial u) in
@@ -72,7 +68,7 @@ module _ (sys : System) (history : List Event) (m : Machine) (s t : State) (mirr
 
   -- Before with a step
   pub precede-next : (w : ℕ) (p : World) (work : HoldsWork m w) → IsFrameSound sys m →
-      IsState t s.clauses.items (change_where (work_in w s.jobs.items) (with_progress P.Waiting) s.obligations.items ++ option_to_list (entry_before s.obligations.items (work_in w s.jobs.items) found)) (others_of w s.jobs.items) s.frontier s.secure s.calm (s.productive + 1) s.ended →
+      IsState t s.clauses.items (change_where (work_in w s.jobs.items) (with_progress P.Waiting) s.obligations.items ++ option_to_list (entry_before s.obligations.items (work_in w s.jobs.items) found)) (others_of w s.jobs.items) s.clauses.frontier s.secure s.calm (s.productive + 1) s.ended →
       IsThen (E.Before w (O.Step p)) (happens m (E.Before w (O.Step p)))
   precede-next w p work sound is =
       let e = E.Before w (O.Step p) in
@@ -100,7 +96,7 @@ module _ (sys : System) (history : List Event) (m : Machine) (s t : State) (mirr
   -- Retire
   pub retire-next : (v gone by : ℕ) →
       Pairs (happens m (E.Retire v gone by)).clauses (change_at gone gone_entry s.clauses.items) (λ k c x. IsClauseOf (history ++ E.Retire v gone by ∷ []) sys (happens m (E.Retire v gone by)) k c x) →
-      IsState t (change_at gone gone_entry s.clauses.items) s.obligations.items s.jobs.items s.frontier s.secure s.calm s.productive s.ended →
+      IsState t (change_at gone gone_entry s.clauses.items) s.obligations.items s.jobs.items s.clauses.frontier s.secure s.calm s.productive s.ended →
       IsThen (E.Retire v gone by) (happens m (E.Retire v gone by))
   retire-next v gone by clauses is =
       let e = E.Retire v gone by in
@@ -166,7 +162,7 @@ module _ (sys : System) (history : List Event) (m : Machine) (s t : State) (mirr
         }
 
     pub fail-next :
-        IsState t (change_where (push_in w s.jobs.items) (failed_entry found) s.clauses.items) s.obligations.items (others_of w s.jobs.items) s.frontier s.secure s.calm (s.productive + 1) s.ended →
+        IsState t (change_where (push_in w s.jobs.items) (failed_entry found) s.clauses.items) s.obligations.items (others_of w s.jobs.items) s.clauses.frontier s.secure s.calm (s.productive + 1) s.ended →
         IsThen failing (happens m failing)
     fail-next is =
         let entry = has-entry w given m.jobs s.jobs.items mirror.jobs push.held in

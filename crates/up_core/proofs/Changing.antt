@@ -1,5 +1,5 @@
 -- Lists that change at a place.
-use Rattle.std.proofs.Common.{◌≡◌, ℕ, zero, suc, ◌<◌, ◌≤◌, List, [], ◌∷◌, length, get_or, set, Option, None, Some, slice_get, refl, sym, ap, subst, ◌∙◌, arith}
+use Rattle.std.proofs.Common.{◌≡◌, ℕ, zero, suc, ◌≤◌, List, [], ◌∷◌, length, set, Option, Some, slice_get, refl, sym, ap, ◌∙◌, arith}
 use Rattle.up_machine.specs.Replay.{change_at}
 use Rattle.up_machine.proofs.Lists.{none_is_some, some_injective}
 use Rattle.up_core.specs.Steps.{change_where}

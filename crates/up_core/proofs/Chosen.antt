@@ -64,6 +64,14 @@ module _ {X Y : Type 0} (xs : List X) (ys : List Y) (R : ℕ → X → Y → Typ
   pub first-none : ((k : ℕ) (y : Y) → slice_get ys k ≡ Some y → ¬ (test k y ≡ true)) → (k : ℕ) → ¬ IsFirst xs P k
   first-none none k f = let q = pairs-right xs ys R h k f.found f.there in none k q.0 q.1 (to k f.found q.0 q.2 f.has)
 
+-- a clause that is to be pushed may rise
+pub push-may : (frontier : ℕ) (jobs : List JobEntry) (k : ℕ) (e : ClauseEntry) → is_to_push frontier jobs k e ≡ true → may_rise frontier e ≡ true
+push-may frontier jobs k e t = first_true (may_rise frontier e) (not (has_job (is_push_of k) jobs)) t
+
+-- one whose push is out isn't
+pub not-out : (frontier : ℕ) (jobs : List JobEntry) (k : ℕ) (e : ClauseEntry) → not (has_job (is_push_of k) jobs) ≡ false → ¬ (is_to_push frontier jobs k e ≡ true)
+not-out frontier jobs k e out t = true≢false (sym (second_true (may_rise frontier e) (not (has_job (is_push_of k) jobs)) t) ∙ out)
+
 -- what has become of an obligation
 module _ (history : List Event) where
   pub rooted-to : (p : Progress) (s : Status) → IsStatusOf history p s → IsRooted s → is_rooted p ≡ true
@@ -179,7 +187,7 @@ module _ (sys : System) (history : List Event) (m : Machine) (s : State) (mirror
   abbrev IsDoneOne : Obligation → Type 0
   IsDoneOne o = o.status ≡ Done
 
-  pub quiet-secure : ¬ (s.secure ≡ s.frontier) → ¬ IsQuiet m
+  pub quiet-secure : ¬ (s.secure ≡ s.clauses.frontier) → ¬ IsQuiet m
   quiet-secure n h = n (sym mirror.secure ∙ h.secure ∙ mirror.frontier)
 
   pub quiet-open : list_any (λ (e : ObligationEntry). not (is_done e.progress)) s.obligations.items ≡ true → ¬ IsQuiet m
@@ -202,7 +210,7 @@ module _ (sys : System) (history : List Event) (m : Machine) (s : State) (mirror
       empty [] (y ∷ ys) p e = absurd p
       empty (x ∷ xs) es p e = cc
 
-  pub quiet-so : s.secure ≡ s.frontier → list_any (λ (e : ObligationEntry). not (is_done e.progress)) s.obligations.items ≡ false → s.jobs.items ≡ [] → IsQuiet m
+  pub quiet-so : s.secure ≡ s.clauses.frontier → list_any (λ (e : ObligationEntry). not (is_done e.progress)) s.obligations.items ≡ false → s.jobs.items ≡ [] → IsQuiet m
   quiet-so secure closed idle = record {
     secure = mirror.secure ∙ secure ∙ sym mirror.frontier;
     finished = all-of_each m.obligations IsDoneOne
@@ -222,7 +230,7 @@ module _ (sys : System) (history : List Event) (m : Machine) (s : State) (mirror
       none (x ∷ xs) [] p e = absurd p
       none (x ∷ xs) (y ∷ ys) p e = cc
 
-  pub quiet-by-jobs : s.secure ≡ s.frontier → list_any (λ (e : ObligationEntry). not (is_done e.progress)) s.obligations.items ≡ false →
+  pub quiet-by-jobs : s.secure ≡ s.clauses.frontier → list_any (λ (e : ObligationEntry). not (is_done e.progress)) s.obligations.items ≡ false →
       (b : Bool) → b ≡ nat_eq (length s.jobs.items) 0 → IsTrue b ↔ IsQuiet m
   quiet-by-jobs secure closed b is = (
     λ t. quiet-so secure closed (empty s.jobs.items (eqb-true (length s.jobs.items) 0 (sym is ∙ t))),
@@ -353,7 +361,7 @@ module _ (sys : System) (limits : Limits) (history : List Event) (m : Machine) (
   look-none not_due (T.Job J.Look) h = not_due h
   look-none not_due _ h = absurd h
 
-  pub look-secure : s.frontier ≤ s.secure → (t : Task) → ¬ by_frontier sys limits m t
+  pub look-secure : s.clauses.frontier ≤ s.secure → (t : Task) → ¬ by_frontier sys limits m t
   look-secure le = look-none (λ h. let a = h.insecure in let e = mirror.secure in let f = mirror.frontier in omega (arith, a))
 
   pub look-busy : has_job is_look s.jobs.items ≡ true → (t : Task) → ¬ by_frontier sys limits m t
@@ -365,7 +373,7 @@ module _ (sys : System) (limits : Limits) (history : List Event) (m : Machine) (
   pub look-many : MOST_SEEDS ≤ count_by is_open_seed s.obligations.items → (t : Task) → ¬ by_frontier sys limits m t
   look-many le = look-none (λ h. let a = h.few in let e = open-is in omega (arith, a, e))
 
-  pub look-some : s.secure < s.frontier → has_job is_look s.jobs.items ≡ false → ¬ (s.calm ≡ Some (count_by is_done_seed s.obligations.items)) →
+  pub look-some : s.secure < s.clauses.frontier → has_job is_look s.jobs.items ≡ false → ¬ (s.calm ≡ Some (count_by is_done_seed s.obligations.items)) →
       count_by is_open_seed s.obligations.items < MOST_SEEDS → by_frontier sys limits m (T.Job J.Look)
   look-some insecure free stirred few = record {
     insecure = let e = mirror.secure in let f = mirror.frontier in omega (arith, insecure);
@@ -381,13 +389,13 @@ module _ (sys : System) (limits : Limits) (history : List Event) (m : Machine) (
   out-to : (k : ℕ) → IsOut m (J.Push k) → has_job (is_push_of k) s.jobs.items ≡ true
   out-to k out = job-to m.jobs s.jobs.items mirror.jobs (λ j. j ≡ J.Push k) (is_push_of k) (push-to k) out
 
-  push-is : (k : ℕ) (c : Clause) (e : ClauseEntry) → IsClauseOf history sys m k c e → IsToPush sys m k c → is_to_push s.frontier s.jobs.items k e ≡ true
+  push-is : (k : ℕ) (c : Clause) (e : ClauseEntry) → IsClauseOf history sys m k c e → IsToPush sys m k c → is_to_push s.clauses.frontier s.jobs.items k e ≡ true
   push-is k c e r p =
-      both_true (may_rise s.frontier e) (not (has_job (is_push_of k) s.jobs.items))
-      (both_true (e.live && nat_le 1 e.level && nat_le e.level s.frontier) (is_none e.failed)
-      (both_true (e.live && nat_le 1 e.level) (nat_le e.level s.frontier)
+      both_true (may_rise s.clauses.frontier e) (not (has_job (is_push_of k) s.jobs.items))
+      (both_true (e.live && nat_le 1 e.level && nat_le e.level s.clauses.frontier) (is_none e.failed)
+      (both_true (e.live && nat_le 1 e.level) (nat_le e.level s.clauses.frontier)
       (both_true e.live (nat_le 1 e.level) (sym r.live ∙ p.live) (le-to 1 e.level (subst (λ n. 1 ≤ n) r.level p.low)))
-      (le-to e.level s.frontier (subst (λ n. n ≤ s.frontier) r.level (subst (λ n. c.level ≤ n) mirror.frontier p.high))))
+      (le-to e.level s.clauses.frontier (subst (λ n. n ≤ s.clauses.frontier) r.level (subst (λ n. c.level ≤ n) mirror.frontier p.high))))
       (unfailed e.failed r.failed p.untried))
       (ap not (not-true (has_job (is_push_of k) s.jobs.items) (λ out. p.free (out-from k out))))
     where
@@ -395,17 +403,17 @@ module _ (sys : System) (limits : Limits) (history : List Event) (m : Machine) (
       unfailed None h untried = refl
       unfailed (Some place) h untried = absurd (untried (any-of_place (IsValid sys m k c) m.failed h.number h.failed h.there h.valid))
 
-  push-so : (k : ℕ) (c : Clause) (e : ClauseEntry) → IsClauseOf history sys m k c e → is_to_push s.frontier s.jobs.items k e ≡ true → IsToPush sys m k c
+  push-so : (k : ℕ) (c : Clause) (e : ClauseEntry) → IsClauseOf history sys m k c e → is_to_push s.clauses.frontier s.jobs.items k e ≡ true → IsToPush sys m k c
   push-so k c e r t =
-      let rise = first_true (may_rise s.frontier e) (not (has_job (is_push_of k) s.jobs.items)) t in
-      let ranged = first_true (e.live && nat_le 1 e.level && nat_le e.level s.frontier) (is_none e.failed) rise in
-      let low = first_true (e.live && nat_le 1 e.level) (nat_le e.level s.frontier) ranged in
+      let rise = first_true (may_rise s.clauses.frontier e) (not (has_job (is_push_of k) s.jobs.items)) t in
+      let ranged = first_true (e.live && nat_le 1 e.level && nat_le e.level s.clauses.frontier) (is_none e.failed) rise in
+      let low = first_true (e.live && nat_le 1 e.level) (nat_le e.level s.clauses.frontier) ranged in
       record {
         live = r.live ∙ first_true e.live (nat_le 1 e.level) low;
         low = subst (λ n. 1 ≤ n) (sym r.level) (le-from 1 e.level (second_true e.live (nat_le 1 e.level) low));
-        high = subst (λ n. n ≤ m.frontier) (sym r.level) (subst (λ n. e.level ≤ n) (sym mirror.frontier) (le-from e.level s.frontier (second_true (e.live && nat_le 1 e.level) (nat_le e.level s.frontier) ranged)));
-        untried = unfailed e.failed r.failed (second_true (e.live && nat_le 1 e.level && nat_le e.level s.frontier) (is_none e.failed) rise);
-        free = λ out. is_false (has_job (is_push_of k) s.jobs.items) (out-to k out) (second_true (may_rise s.frontier e) (not (has_job (is_push_of k) s.jobs.items)) t);
+        high = subst (λ n. n ≤ m.frontier) (sym r.level) (subst (λ n. e.level ≤ n) (sym mirror.frontier) (le-from e.level s.clauses.frontier (second_true (e.live && nat_le 1 e.level) (nat_le e.level s.clauses.frontier) ranged)));
+        untried = unfailed e.failed r.failed (second_true (e.live && nat_le 1 e.level && nat_le e.level s.clauses.frontier) (is_none e.failed) rise);
+        free = λ out. is_false (has_job (is_push_of k) s.jobs.items) (out-to k out) (second_true (may_rise s.clauses.frontier e) (not (has_job (is_push_of k) s.jobs.items)) t);
       }
     where
       unfailed : (o : Option ℕ) → IsValidPush history sys m k c o → is_none o ≡ true → ¬ Any (IsValid sys m k c) m.failed
@@ -416,12 +424,12 @@ module _ (sys : System) (limits : Limits) (history : List Event) (m : Machine) (
       is_false true t n = true≢false (sym n)
       is_false false t n = true≢false (sym t)
 
-  pub push-none : IsFirstPlace s.clauses.items (is_to_push s.frontier s.jobs.items) None → (t : Task) → ¬ by_clause sys limits m t
-  push-none none (T.Job (J.Push k)) h = first-none m.clauses s.clauses.items IsEntry mirror.clauses (IsToPush sys m) (is_to_push s.frontier s.jobs.items) push-is push-so none k h
+  pub push-none : IsFirstPlace s.clauses.items (is_to_push s.clauses.frontier s.jobs.items) None → (t : Task) → ¬ by_clause sys limits m t
+  push-none none (T.Job (J.Push k)) h = first-none m.clauses s.clauses.items IsEntry mirror.clauses (IsToPush sys m) (is_to_push s.clauses.frontier s.jobs.items) push-is push-so none k h
   push-none none _ h = absurd h
 
-  pub push-some : (k : ℕ) → IsFirstPlace s.clauses.items (is_to_push s.frontier s.jobs.items) (Some k) → by_clause sys limits m (T.Job (J.Push k))
-  push-some k first = first-some m.clauses s.clauses.items IsEntry mirror.clauses (IsToPush sys m) (is_to_push s.frontier s.jobs.items) push-is push-so k first
+  pub push-some : (k : ℕ) → IsFirstPlace s.clauses.items (is_to_push s.clauses.frontier s.jobs.items) (Some k) → by_clause sys limits m (T.Job (J.Push k))
+  push-some k first = first-some m.clauses s.clauses.items IsEntry mirror.clauses (IsToPush sys m) (is_to_push s.clauses.frontier s.jobs.items) push-is push-so k first
 
   -- 8. quiet
   pub quiet-none : ¬ IsQuiet m → (t : Task) → ¬ by_quiet sys limits m t
@@ -429,10 +437,10 @@ module _ (sys : System) (limits : Limits) (history : List Event) (m : Machine) (
   quiet-none n (T.Finish S.Bounded) h = n h.0
   quiet-none n _ h = absurd h
 
-  pub quiet-more : IsQuiet m → s.frontier < limits.frames → by_quiet sys limits m T.Advance
+  pub quiet-more : IsQuiet m → s.clauses.frontier < limits.frames → by_quiet sys limits m T.Advance
   quiet-more quiet lt = (quiet, subst (λ n. n < limits.frames) (sym mirror.frontier) lt)
 
-  pub quiet-bounded : IsQuiet m → limits.frames ≤ s.frontier → by_quiet sys limits m (T.Finish S.Bounded)
+  pub quiet-bounded : IsQuiet m → limits.frames ≤ s.clauses.frontier → by_quiet sys limits m (T.Finish S.Bounded)
   quiet-bounded quiet le = (quiet, subst (λ n. limits.frames ≤ n) (sym mirror.frontier) le)
 
 -- where a rule gave no task

@@ -201,11 +201,11 @@ module _ (sys : System) (history : List Event) (m : Machine) (s : State) (clause
       valid_of (Some place) h is f =
           f (record { number = h.number; failed = h.failed; there = h.there; valid = h.valid; step = some_injective leave.step h.failed.step (sym is ∙ h.step) })
 
-  leaves-are : m.frontier ≡ s.frontier → (leaves : List Leave) → AreLeavesBy history s leaves → AreLeavesOf sys m leaves
+  leaves-are : m.frontier ≡ s.clauses.frontier → (leaves : List Leave) → AreLeavesBy history s leaves → AreLeavesOf sys m leaves
   leaves-are same leaves l = record { one_each = l.one_each ∙ sym same; each = λ k leave at. leave-is (k + 1) leave (l.each k leave at) }
 
   -- each level has one, where the machine is settled
-  module _ (settle : IsSettled sys m) (same : m.frontier ≡ s.frontier) where
+  module _ (settle : IsSettled sys m) (same : m.frontier ≡ s.clauses.frontier) where
     has-leave : (i : ℕ) → 1 ≤ i → i ≤ m.frontier → HasLeave history (mark_of i 0 es)
     has-leave i low high = by (mark_of i 0 es) refl
       where
@@ -284,7 +284,7 @@ module _ (sys : System) (order : Order) (limits : Limits) (history : Vec Event) 
   obligations-are : (end : End) → Closed end → Pairs m.obligations s.obligations.items (λ k o e. IsObligationOf history.items o e)
   obligations-are end is = (mirror-now end is).obligations
 
-  frontier-is : (end : End) → Closed end → m.frontier ≡ s.frontier
+  frontier-is : (end : End) → Closed end → m.frontier ≡ s.clauses.frontier
   frontier-is end is = (mirror-now end is).frontier
 
   module _ (is : Closed N.NoUniversal) (trace : HoldsTrace m w) where
@@ -307,11 +307,11 @@ module _ (sys : System) (order : Order) (limits : Limits) (history : Vec Event) 
           number = trace.obligation;
           taken = taken;
           root = r.root;
-          root_is = root-is sys core.infer.system history.items s.frontier m.obligations s.obligations.items pairs trace.obligation r.obligation r.root r.there r.rooted;
-          copies = root-some sys core.infer.system history.items s.frontier m.obligations s.obligations.items pairs origins levels trace.obligation r.obligation r.root r.there r.rooted;
+          root_is = root-is sys core.infer.system history.items s.clauses.frontier m.obligations s.obligations.items pairs trace.obligation r.obligation r.root r.there r.rooted;
+          copies = root-some sys core.infer.system history.items s.clauses.frontier m.obligations s.obligations.items pairs origins levels trace.obligation r.obligation r.root r.there r.rooted;
           narrow = omega (arith, few.frontier, few.steps, most, frontier);
-          first = first-link sys core.infer.system history.items s.frontier m.obligations s.obligations.items pairs origins levels trace.obligation r.obligation r.root r.there r.rooted;
-          more = go-on sys core.infer.system history.items s.frontier m.obligations s.obligations.items pairs origins levels;
+          first = first-link sys core.infer.system history.items s.clauses.frontier m.obligations s.obligations.items pairs origins levels trace.obligation r.obligation r.root r.there r.rooted;
+          more = go-on sys core.infer.system history.items s.clauses.frontier m.obligations s.obligations.items pairs origins levels;
         }
 
     links-are : (links : List Link) → AreLinksOf sys.sig history.items s w links → AreTraced sys.sig m w links
@@ -320,9 +320,9 @@ module _ (sys : System) (order : Order) (limits : Limits) (history : Vec Event) 
         let r = traced-rooted sys limits before w trace.obligation trace.steps legal trace.held in
         let pairs = obligations-are N.NoUniversal is in
         let same : l.number ≡ trace.obligation = some_injective l.number trace.obligation (sym l.taken ∙ taken) in
-        let root = root-is sys core.infer.system history.items s.frontier m.obligations s.obligations.items pairs trace.obligation r.obligation r.root r.there r.rooted in
+        let root = root-is sys core.infer.system history.items s.clauses.frontier m.obligations s.obligations.items pairs trace.obligation r.obligation r.root r.there r.rooted in
         let one : l.root ≡ r.root = some_injective l.root r.root (sym l.root_is ∙ ap (root_in history.items s.obligations.items) same ∙ root) in
-        let chain = links-to sys core.infer.system history.items s.frontier m.obligations s.obligations.items pairs (alone l.root 0) l.number links l.chain in
+        let chain = links-to sys core.infer.system history.items s.clauses.frontier m.obligations s.obligations.items pairs (alone l.root 0) l.number links l.chain in
         let rooted_chain = subst (λ u. AreLinks sys.sig m.obligations (alone u 0) l.number links) one chain in
         record {
           trace = trace;

@@ -1,12 +1,10 @@
 -- Into which frames a clause comes that is learnt or rises.
-use Rattle.std.proofs.Common.{◌≡◌, ℕ, zero, suc, ◌+◌, ◌<◌, ◌≤◌, Bool, true, false, List, [], ◌∷◌, ◌++◌, length, Option, None, Some, slice_get, refl, sym, ap, subst, ◌∙◌, arith, ◌⊎◌, inl, inr}
+use Rattle.std.proofs.Common.{◌≡◌, ℕ, zero, suc, ◌<◌, ◌≤◌, true, List, [], ◌∷◌, ◌++◌, length, Some, slice_get, sym, ap, subst, arith, ◌⊎◌, inl, inr}
 use Rattle.std.proofs.lemmas.Bool.{cases_lt}
 use Rattle.fo_core.specs.declared.system.System.{System}
 use Rattle.fo_core.specs.declared.world.World.{World}
-use Rattle.up_diagram.specs.declared.cube.Cube.{Cube}
 use Rattle.up_diagram.specs.Cubes.{Meets}
-use Rattle.up_claims.specs.Frames.{Avoids}
-use Rattle.up_machine.specs.Machine.{Clause, Machine, IsIn, cubes_from, frame}
+use Rattle.up_machine.specs.Machine.{Clause, Machine, IsIn}
 use Rattle.up_machine.specs.Replay.{change_at, raised}
 use Rattle.up_machine.specs.Sound.{Each}
 use Rattle.up_machine.proofs.FrameEvents.{told_in}

@@ -1,14 +1,12 @@
 -- Which clause may go for which, by the entries of the clauses.
-use Rattle.std.proofs.Common.{◌≡◌, ℕ, ◌<◌, ◌≤◌, ◌≢◌, Bool, true, false, List, length, get_or, Option, None, Some, slice_get, refl, sym, ap, subst, ◌∙◌, ◌⊎◌, inl, inr, arith, true≢false}
+use Rattle.std.proofs.Common.{◌≡◌, ℕ, ◌<◌, ◌≤◌, true, false, List, length, Option, None, Some, slice_get, sym, subst, ◌∙◌, ◌⊎◌, inl, inr, arith}
 use Rattle.std.proofs.lemmas.Bool.{cases_lt, cases_order}
-use Rattle.std.proofs.lemmas.Option.{get_or_from_slice_get, slice_get-get_or}
 use Rattle.fo_core.specs.declared.system.System.{System}
 use Rattle.up_diagram.specs.declared.cube.Cube.{Cube}
 use Rattle.std.specs.Prelude.{MatchOption}
 use Rattle.up_diagram.specs.Covers.{Covers}
 use Rattle.up_diagram.specs.Cubes.{HasPlaces}
 use Rattle.up_machine.specs.declared.event.Event.{Event}
-use Rattle.up_machine.specs.declared.job.Job.{Job}
 use Rattle.up_machine.specs.declared.job.Job.TheVariants as J
 use Rattle.up_machine.specs.declared.not_now.Cover.{Cover}
 use Rattle.up_machine.specs.Due.{IsFirst}
@@ -16,15 +14,15 @@ use Rattle.up_machine.specs.Legal.{IsCover}
 use Rattle.up_machine.specs.Machine.{Clause, Machine}
 use Rattle.up_machine.specs.Rounds.{IsFirstCover}
 use Rattle.up_machine.specs.Sound.{IsFit}
-use Rattle.up_machine.proofs.Lists.{some_injective, get-lt}
+use Rattle.up_machine.proofs.Lists.{some_injective}
 use Rattle.up_machine.proofs.SortedCubes.{sorted-places}
 use Rattle.up_core.specs.declared.clauses.LiveClause.{LiveClause}
 use Rattle.up_core.specs.declared.state.ClauseEntry.{ClauseEntry}
 use Rattle.up_core.specs.declared.state.JobEntry.{JobEntry}
 use Rattle.up_core.specs.declared.state.State.{State}
 use Rattle.up_core.specs.Choice.{has_job, is_push_of}
-use Rattle.up_core.specs.Covering.{CanCover, AllCanCover, IsCovering, CanGoFor, IsPair, IsFirstBy, IsFirstPair, IsFoundPair}
-use Rattle.up_core.specs.Mirror.{Pairs, IsCubeAt, IsClauseOf, IsMirror}
+use Rattle.up_core.specs.Covering.{AllCanCover, IsCovering, CanGoFor, IsPair, IsFirstBy, IsFirstPair, IsFoundPair}
+use Rattle.up_core.specs.Mirror.{IsCubeAt, IsClauseOf, IsMirror}
 use Rattle.up_core.specs.Room.{IsRoomy}
 use Rattle.up_core.specs.View.{MayRetire}
 use Rattle.up_core.proofs.Chosen.{job-to, job-from, push-from, push-to, not-true, not-both}

@@ -1,5 +1,5 @@
 -- The machine in code after each event.
-use Rattle.std.proofs.Common.{◌≡◌, ℕ, zero, suc, ◌+◌, ◌-◌, ◌^◌, ◌<◌, ◌≤◌, max, Bool, true, false, List, [], ◌∷◌, ◌++◌, length, Option, None, Some, is_some, slice_get, refl, sym, ap, subst, ◌∙◌, arith, true≢false}
+use Rattle.std.proofs.Common.{◌≡◌, ℕ, ◌+◌, ◌-◌, ◌^◌, ◌<◌, ◌≤◌, max, true, false, [], ◌∷◌, ◌++◌, length, Option, None, Some, is_some, slice_get, refl, sym, ap, subst, ◌∙◌, arith}
 use Rattle.std.specs.Global.{Vec}
 use Rattle.std.specs.Vec.{vec_len, vec_capacity}
 use Rattle.std.specs.List.{count_by}
@@ -15,11 +15,10 @@ use Rattle.up_machine.specs.declared.job.Job.{Job}
 use Rattle.up_machine.specs.declared.job.Job.TheVariants as J
 use Rattle.up_machine.specs.declared.job.Short.{Short}
 use Rattle.up_machine.specs.declared.job.Short.TheVariants as S
-use Rattle.up_machine.specs.declared.job.Task.{Task}
 use Rattle.up_machine.specs.declared.job.Task.TheVariants as T
 use Rattle.up_machine.specs.declared.limits.Limits.{Limits}
 use Rattle.up_machine.specs.Due.{IsDue, IsQuiet}
-use Rattle.up_machine.specs.Legal.{IsLegal, MayReturn}
+use Rattle.up_machine.specs.Legal.{IsLegal}
 use Rattle.up_machine.specs.Machine.{Clause, Obligation, Given, Machine, held_by}
 use Rattle.up_machine.specs.Replay.{happens, replay, released, is_productive, jobs_after, given_for, given_work, given_push, given_trace}
 use Rattle.up_machine.specs.Rounds.{end_of}
@@ -31,11 +30,11 @@ use Rattle.up_core.specs.declared.state.Progress.TheVariants as P
 use Rattle.up_core.specs.Becoming.{IsState}
 use Rattle.up_core.specs.Choice.{is_done_seed}
 use Rattle.up_core.specs.Holding.{IsCore}
-use Rattle.up_core.specs.Known.{IsKnown, IsOpenFor, IsNow, IsNotNow, IsJobEnd}
+use Rattle.up_core.specs.Known.{IsKnown, IsOpenFor, IsJobEnd}
 use Rattle.up_core.specs.Mirror.{IsMirror}
 use Rattle.up_core.specs.Room.{HasRoom, HasSpare, IsRoomyFor}
 use Rattle.up_core.specs.Steps.{change_where, with_progress, finished, work_of_job, work_in, others_of, calm_of}
-use Rattle.up_core.specs.View.{CoreView, now, HasVariablesForJob}
+use Rattle.up_core.specs.View.{CoreView, HasVariablesForJob}
 use Rattle.up_core.proofs.Counts.{length-push}
 use Rattle.up_core.proofs.Mirrors.{advance-next, finish-next, secure-next, drop-next, return-next, close-next, is-taken, take-next}
 use Rattle.up_core.proofs.NextCores.{core-next, report-room, open-of, legal-now, released-fewer, due-open, due-paid}
@@ -101,19 +100,19 @@ module _ (sys : System) (order : Order) (limits : Limits) (history : Vec Event) 
       omega (arith, fewer, enough, e))
 
   pub secure-core : (w : ℕ) (h : Vec Event) (t : State) → IsKnown view (E.Secure w) → s.ended ≡ false → s.productive < limits.steps → IsLonger history (E.Secure w) h → KeepsRoom t →
-      IsState t s.clauses.items s.obligations.items (others_of w s.jobs.items) s.frontier s.frontier s.calm (s.productive + 1) s.ended → IsAfter h t
+      IsState t s.clauses.items s.obligations.items (others_of w s.jobs.items) s.clauses.frontier s.clauses.frontier s.calm (s.productive + 1) s.ended → IsAfter h t
   secure-core w h t known off paid longer room is =
       report-step (E.Secure w) w _ h t (record { cubes = λ c is. none_is_some c is; states = λ o is. none_is_some o is; taken = tt }) known.look.held off refl (legal-now view (E.Secure w) known (record { open_for = open-for (E.Secure w) off paid; in_place = tt })) longer room
       (secure-next sys history.items here s t core.mirror w is)
 
   pub drop-core : (w k : ℕ) (h : Vec Event) (t : State) → IsKnown view (E.Drop w k) → s.ended ≡ false → s.productive < limits.steps → IsLonger history (E.Drop w k) h → KeepsRoom t →
-      IsState t s.clauses.items (finished (work_in w s.jobs.items) s.obligations.items) (others_of w s.jobs.items) s.frontier s.secure s.calm (s.productive + 1) s.ended → IsAfter h t
+      IsState t s.clauses.items (finished (work_in w s.jobs.items) s.obligations.items) (others_of w s.jobs.items) s.clauses.frontier s.secure s.calm (s.productive + 1) s.ended → IsAfter h t
   drop-core w k h t known off paid longer room is =
       report-step (E.Drop w k) w _ h t (record { cubes = λ c is. none_is_some c is; states = λ o is. none_is_some o is; taken = tt }) known.work.held off refl (legal-now view (E.Drop w k) known (record { open_for = open-for (E.Drop w k) off paid; in_place = tt })) longer room
       (drop-next sys history.items here s t core.mirror w k known.work is)
 
   pub return-core : (w : ℕ) (why : Why) (h : Vec Event) (t : State) → IsKnown view (E.Return w why) → s.ended ≡ false → IsLonger history (E.Return w why) h → KeepsRoom t →
-      IsState t s.clauses.items (change_where (work_in w s.jobs.items) (with_progress P.Ready) s.obligations.items) (others_of w s.jobs.items) s.frontier s.secure (calm_of why w s.jobs.items s.calm) s.productive s.ended →
+      IsState t s.clauses.items (change_where (work_in w s.jobs.items) (with_progress P.Ready) s.obligations.items) (others_of w s.jobs.items) s.clauses.frontier s.secure (calm_of why w s.jobs.items s.calm) s.productive s.ended →
       IsAfter h t
   return-core w why h t known off longer room is =
       let job = returned_job sys limits here w why known in
@@ -130,14 +129,14 @@ module _ (sys : System) (order : Order) (limits : Limits) (history : Vec Event) 
   closed-job w N.Spent job known = absurd job
 
   pub close-core : (w : ℕ) (end : End) (h : Vec Event) (t : State) → IsJobEnd end → IsKnown view (E.Close w end) → s.ended ≡ false → IsLonger history (E.Close w end) h → KeepsRoom t →
-      IsState t s.clauses.items s.obligations.items (others_of w s.jobs.items) s.frontier s.secure s.calm s.productive true → IsAfter h t
+      IsState t s.clauses.items s.obligations.items (others_of w s.jobs.items) s.clauses.frontier s.secure s.calm s.productive true → IsAfter h t
   close-core w end h t job known off longer room is =
       let held = closed-job w end job known in
       step (E.Close w end) h t (record { cubes = λ c is. none_is_some c is; states = λ o is. none_is_some o is; taken = tt }) (report-room sys order limits history s spare picks variables widest core w held.0 held.1 off) (legal-now view (E.Close w end) known (record { open_for = open-free (E.Close w end) refl off; in_place = tt })) longer room
       (close-next sys history.items here s t core.mirror w end job is) (λ open_one. none_is_some end (sym open_one))
 
   pub advance-core : (w : ℕ) (h : Vec Event) (t : State) → 1 ≤ spare → IsKnown view (E.Advance w) → IsLonger history (E.Advance w) h → KeepsRoom t →
-      IsState t s.clauses.items s.obligations.items s.jobs.items (s.frontier + 1) s.secure None (s.productive + 1) s.ended → IsAfter h t
+      IsState t s.clauses.items s.obligations.items s.jobs.items (s.clauses.frontier + 1) s.secure None (s.productive + 1) s.ended → IsAfter h t
   advance-core w h t some known longer room is =
       let opened = due-open sys limits here T.Advance (λ e. not_ended e) known in
       let legal : IsLegal sys limits here (E.Advance w) = record { not_ended = opened; affordable = λ _. due-paid sys limits here known; allowed = known } in
@@ -151,7 +150,7 @@ module _ (sys : System) (order : Order) (limits : Limits) (history : Vec Event) 
       quiet due = due_advance sys limits here due
 
   pub finish-core : (w : ℕ) (short : Short) (h : Vec Event) (t : State) → 1 ≤ spare → IsKnown view (E.Close w (end_of short)) → IsLonger history (E.Close w (end_of short)) h → KeepsRoom t →
-      IsState t s.clauses.items s.obligations.items s.jobs.items s.frontier s.secure s.calm s.productive true → IsAfter h t
+      IsState t s.clauses.items s.obligations.items s.jobs.items s.clauses.frontier s.secure s.calm s.productive true → IsAfter h t
   finish-core w short h t some known longer room is =
       step (E.Close w (end_of short)) h t (record { cubes = λ c is. none_is_some c is; states = λ o is. none_is_some o is; taken = tt }) some legal longer room (finish-next sys history.items here s t core.mirror w short is) (λ open_one. none_is_some (end_of short) (sym open_one))
     where
@@ -168,7 +167,7 @@ module _ (sys : System) (order : Order) (limits : Limits) (history : Vec Event) 
 
   pub take-core : (w : ℕ) (job : Job) (h : Vec Event) (t : State) → length here.jobs + 2 ≤ spare → HasVariablesForJob view job → IsKnown view (E.Take w job) → IsLonger history (E.Take w job) h → KeepsRoom t →
       IsState t s.clauses.items (change_where (work_of_job job) (with_progress P.Out) s.obligations.items)
-      (s.jobs.items ++ record { worker = w; job = job; done = count_by is_done_seed s.obligations.items } ∷ []) s.frontier s.secure s.calm s.productive s.ended → IsAfter h t
+      (s.jobs.items ++ record { worker = w; job = job; done = count_by is_done_seed s.obligations.items } ∷ []) s.clauses.frontier s.secure s.calm s.productive s.ended → IsAfter h t
   take-core w job h t some wide known longer room is =
       let taken = is-taken sys history.items here s t core.mirror limits job known.due in
       let legal : IsLegal sys limits here (E.Take w job) = record { not_ended = due-open sys limits here (T.Job job) differ known.due; affordable = λ e. false_is_true e; allowed = known } in

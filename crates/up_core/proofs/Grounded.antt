@@ -9,9 +9,9 @@ use Rattle.up_machine.specs.declared.event.Event.TheVariants as E
 use Rattle.up_machine.specs.declared.job.Job.{Job}
 use Rattle.up_machine.specs.declared.job.Job.TheVariants as J
 use Rattle.up_machine.specs.declared.limits.Limits.{Limits}
-use Rattle.up_machine.specs.Legal.{IsLegal, Legal}
-use Rattle.up_machine.specs.Machine.{Clause, Obligation, Given, Work, Look, Push, Trace, Held, Machine, start, cubes_from, held_by}
-use Rattle.up_machine.specs.Replay.{given_for, given_work, given_push, given_trace, job_of_event, happens, replay}
+use Rattle.up_machine.specs.Legal.{Legal}
+use Rattle.up_machine.specs.Machine.{Clause, Obligation, Given, Work, Look, Push, Trace, Machine, start, cubes_from, held_by}
+use Rattle.up_machine.specs.Replay.{given_for, given_work, given_push, given_trace, job_of_event, replay}
 use Rattle.up_machine.specs.Sound.{Each}
 use Rattle.up_machine.proofs.Histories.{along}
 use Rattle.up_machine.proofs.Holding.{held-at}

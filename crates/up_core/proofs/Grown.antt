@@ -1,5 +1,5 @@
 -- What the numbers say stays so where the history goes on and the machine keeps its clauses.
-use Rattle.std.proofs.Common.{◌≡◌, ℕ, zero, suc, Bool, List, [], ◌∷◌, ◌++◌, length, Option, None, Some, slice_get, refl, sym, ap, subst, ◌∙◌, Any}
+use Rattle.std.proofs.Common.{◌≡◌, ℕ, zero, suc, List, [], ◌∷◌, ◌++◌, Option, None, Some, slice_get, sym, subst}
 use Rattle.std.specs.Option.{option_and_then}
 use Rattle.fo_core.specs.declared.system.System.{System}
 use Rattle.fo_core.specs.declared.world.World.{World}
@@ -12,7 +12,7 @@ use Rattle.up_core.specs.declared.state.ClauseEntry.{ClauseEntry}
 use Rattle.up_core.specs.declared.state.ObligationEntry.{ObligationEntry}
 use Rattle.up_core.specs.declared.state.Progress.{Progress}
 use Rattle.up_core.specs.declared.state.Progress.TheVariants as P
-use Rattle.up_core.specs.Mirror.{Pairs, cube_of, world_of, IsCubeAt, IsWorldAt, IsStatusOf, IsObligationOf, IsValidAt, IsValidPush, IsClauseOf}
+use Rattle.up_core.specs.Mirror.{Pairs, cube_of, world_of, IsCubeAt, IsWorldAt, IsStatusOf, IsObligationOf, IsValidPush, IsClauseOf}
 use Rattle.up_core.proofs.Pairing.{pairs-map, place-any}
 
 -- what is read at a place is read there in a longer list

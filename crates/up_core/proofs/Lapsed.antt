@@ -1,5 +1,5 @@
 -- Which failed pushes stay valid where a clause comes into some frames.
-use Rattle.std.proofs.Common.{◌≡◌, ℕ, zero, suc, ◌+◌, ◌<◌, ◌≤◌, Bool, true, false, List, [], ◌∷◌, ◌++◌, length, Option, None, Some, slice_get, refl, sym, ap, subst, ◌∙◌, arith, ◌⊎◌, inl, inr, Any, true≢false}
+use Rattle.std.proofs.Common.{◌≡◌, ℕ, ◌≤◌, false, List, [], ◌∷◌, ◌++◌, Option, None, Some, slice_get, refl, sym, ap, subst, ◌∙◌, arith, ◌⊎◌, inl, inr, Any, true≢false}
 use Rattle.fo_core.specs.declared.signature.Sig.{Sig}
 use Rattle.fo_core.specs.declared.system.System.{System}
 use Rattle.fo_core.specs.declared.world.World.{World}
@@ -8,12 +8,12 @@ use Rattle.up_diagram.specs.Cubes.{Meets}
 use Rattle.up_machine.specs.declared.event.Event.{Event}
 use Rattle.up_machine.specs.Due.{IsValid}
 use Rattle.up_machine.specs.Machine.{Clause, FailedPush, Machine, IsIn}
-use Rattle.up_machine.proofs.Lists.{none_is_some, any-of_place, some_injective, two_places}
+use Rattle.up_machine.proofs.Lists.{any-of_place, some_injective, two_places}
 use Rattle.up_core.specs.declared.state.ClauseEntry.{ClauseEntry}
-use Rattle.up_core.specs.Lapsing.{IsHit, IsLapsed, IsWorldHit, AreLapsed, AreLapsable}
-use Rattle.up_core.specs.Mirror.{Pairs, IsCubeAt, IsWorldAt, IsValidPush, IsValidAt, IsClauseOf}
+use Rattle.up_core.specs.Lapsing.{IsHit, IsLapsed, AreLapsable}
+use Rattle.up_core.specs.Mirror.{IsCubeAt, IsValidPush, IsValidAt, IsClauseOf}
 use Rattle.up_core.proofs.Grown.{cube-stays, world-stays}
-use Rattle.up_core.proofs.Pairing.{place-any, pairs-through}
+use Rattle.up_core.proofs.Pairing.{place-any}
 
 -- The clause with this cube comes into the frames from low to high: a state of such a frame before
 -- is one now exactly where it doesn't meet the cube, and other frames stay.

@@ -9,6 +9,7 @@ pub mod Counts
 pub mod CoverPairs
 pub mod Crossing
 pub mod EventCores
+pub mod Gathered
 pub mod Grounded
 pub mod Grown
 pub mod Lapsed

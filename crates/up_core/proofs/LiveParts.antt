@@ -1,9 +1,9 @@
 -- A list whose elements that pass a test are treated one after the other.
-use Rattle.std.proofs.Common.{◌≡◌, ℕ, zero, suc, ◌+◌, ◌<◌, ◌≤◌, Bool, false, List, [], ◌∷◌, length, get_or, set, Some, slice_get, refl, sym, ap, subst, ◌∙◌, ◌⊎◌, inl, inr, arith}
+use Rattle.std.proofs.Common.{◌≡◌, ℕ, suc, ◌+◌, ◌<◌, ◌≤◌, Bool, false, List, [], ◌∷◌, length, get_or, set, Some, slice_get, refl, sym, ap, subst, ◌∙◌, ◌⊎◌, inl, inr, arith}
 use Rattle.std.proofs.lemmas.Bool.{cases_lt}
 use Rattle.std.proofs.lemmas.List.{get_or_past}
 use Rattle.std.proofs.lemmas.Option.{slice_get-get_or}
-use Rattle.up_machine.proofs.Lists.{some_injective, get-lt}
+use Rattle.up_machine.proofs.Lists.{some_injective}
 use Rattle.up_core.specs.Mirror.{Pairs}
 use Rattle.up_core.specs.Places.{places_of}
 use Rattle.up_core.proofs.Pairing.{pairs-length}

@@ -149,7 +149,7 @@ leaves-next xs ys zs R k x y h at r is =
     subst (λ n. Pairs (take n xs) zs R) one (subst (λ ws. Pairs (take (suc k) xs) ws R) (sym is) (pairs-next xs ys R k x y h at r))
 
 -- the leaves of the marks
-pub leaves-by : (history : List Event) (s : State) (marks : List (Option Mark)) (leaves : List Leave) → AreMarks s.frontier s.clauses.items marks →
+pub leaves-by : (history : List Event) (s : State) (marks : List (Option Mark)) (leaves : List Leave) → AreMarks s.clauses.frontier s.clauses.items marks →
     Pairs marks leaves (λ k mark leave. IsLeaveBy history (k + 1) mark leave) → AreLeavesBy history s leaves
 leaves-by history s marks leaves are h = record {
   one_each = sym (pairs-length marks leaves (λ k mark leave. IsLeaveBy history (k + 1) mark leave) h) ∙ are.one_each;
@@ -158,6 +158,6 @@ leaves-by history s marks leaves are h = record {
       subst (λ m. IsLeaveBy history (k + 1) m leave) (are.each k q.0 q.1) q.2;
 }
 
-pub marks-can : (history : List Event) (s : State) (marks : List (Option Mark)) → AreMarks s.frontier s.clauses.items marks → CanTellLeaves history s →
+pub marks-can : (history : List Event) (s : State) (marks : List (Option Mark)) → AreMarks s.clauses.frontier s.clauses.items marks → CanTellLeaves history s →
     (k : ℕ) (mark : Option Mark) → slice_get marks k ≡ Some mark → HasLeave history mark
 marks-can history s marks are can k mark at = subst (HasLeave history) (sym (are.each k mark at)) (can k (omega (arith, get-lt marks k mark at, are.one_each)))

@@ -1,5 +1,5 @@
 -- What Retire and Fail do to the clauses' entries.
-use Rattle.std.proofs.Common.{◌≡◌, ℕ, zero, suc, ◌+◌, Bool, true, false, List, [], ◌∷◌, ◌++◌, length, Option, None, Some, slice_get, refl, sym, ap, subst, ◌∙◌, inl, inr, Any}
+use Rattle.std.proofs.Common.{◌≡◌, ℕ, List, [], ◌∷◌, ◌++◌, length, Option, slice_get, refl, sym, ap, subst}
 use Rattle.std.specs.Option.{option_and_then}
 use Rattle.fo_core.specs.declared.system.System.{System}
 use Rattle.fo_core.specs.declared.world.World.{World}
@@ -8,16 +8,16 @@ use Rattle.up_machine.specs.declared.event.Event.TheVariants as E
 use Rattle.up_machine.specs.declared.limits.Limits.{Limits}
 use Rattle.up_machine.specs.Due.{IsValid}
 use Rattle.up_machine.specs.Legal.{IsLegal, Legal}
-use Rattle.up_machine.specs.Machine.{Clause, FailedPush, Given, Push, Held, Machine, IsIn, held_by}
-use Rattle.up_machine.specs.Replay.{change_at, retired, after_event, happens, replay}
+use Rattle.up_machine.specs.Machine.{Clause, Machine, IsIn}
+use Rattle.up_machine.specs.Replay.{change_at, retired, happens, replay}
 use Rattle.up_machine.proofs.Histories.{legal-push, replay-push, retire_keeps}
-use Rattle.up_machine.proofs.Lists.{none_is_some, false_is_true, get-append, get-push, any-of_place, some_injective}
+use Rattle.up_machine.proofs.Lists.{false_is_true}
 use Rattle.up_machine.proofs.Waiting.{get-last}
 use Rattle.up_core.specs.declared.state.ClauseEntry.{ClauseEntry}
-use Rattle.up_core.specs.Mirror.{Pairs, world_of, IsWorldAt, IsValidAt, IsValidPush, IsClauseOf}
+use Rattle.up_core.specs.Mirror.{Pairs, IsClauseOf}
 use Rattle.up_core.specs.Steps.{gone_entry}
-use Rattle.up_core.proofs.Grown.{cube-stays, world-stays, clause-stays}
-use Rattle.up_core.proofs.Pairing.{pairs-both, pairs-apart, place-any}
+use Rattle.up_core.proofs.Grown.{cube-stays, clause-stays}
+use Rattle.up_core.proofs.Pairing.{pairs-both, place-any}
 
 -- what the last event of a history brings
 pub read-last : {X Y : Type 0} (f : X → Option Y) (xs : List X) (x : X) → option_and_then f (slice_get (xs ++ x ∷ []) (length xs)) ≡ f x

@@ -1,10 +1,9 @@
 -- The numbers after an event are those of the machine after it.
-use Rattle.std.proofs.Common.{◌≡◌, ℕ, zero, suc, ◌+◌, ◌-◌, ◌<◌, ◌≤◌, Bool, true, false, not, List, [], ◌∷◌, ◌++◌, length, filter, find, nat_eq, Option, None, Some, is_some, slice_get, refl, sym, ap, subst, ◌∙◌, arith}
+use Rattle.std.proofs.Common.{◌≡◌, ℕ, zero, suc, ◌+◌, Bool, true, not, List, [], ◌∷◌, ◌++◌, find, nat_eq, Option, None, Some, is_some, refl, sym, ap, subst, ◌∙◌, arith}
 use Rattle.std.specs.List.{count_by}
 use Rattle.std.specs.Option.{option_and_then, option_map_or}
 use Rattle.std.specs.Prelude.{option_map}
 use Rattle.fo_core.specs.declared.system.System.{System}
-use Rattle.fo_core.specs.declared.world.World.{World}
 use Rattle.up_machine.specs.declared.end.End.{End}
 use Rattle.up_machine.specs.declared.end.End.TheVariants as N
 use Rattle.up_machine.specs.declared.event.Event.{Event}
@@ -17,10 +16,10 @@ use Rattle.up_machine.specs.declared.job.Short.{Short}
 use Rattle.up_machine.specs.declared.job.Short.TheVariants as S
 use Rattle.up_machine.specs.declared.job.Task.TheVariants as T
 use Rattle.up_machine.specs.declared.limits.Limits.{Limits}
-use Rattle.up_machine.specs.Due.{IsDue, IsFirst, job_of}
+use Rattle.up_machine.specs.Due.{IsDue, job_of}
 use Rattle.up_machine.specs.Finding.{HoldsWork}
 use Rattle.up_machine.specs.Legal.{MayReturn}
-use Rattle.up_machine.specs.Machine.{Clause, Status, Ready, Out, Done, Obligation, FailedPush, Given, Work, Look, Push, Trace, Held, Machine, done_seeds, is_done_seed as was_done_seed, held_by}
+use Rattle.up_machine.specs.Machine.{Status, Ready, Out, Done, Obligation, Given, Work, Look, Push, Trace, Held, Machine, is_done_seed as was_done_seed, held_by}
 use Rattle.up_machine.specs.Replay.{change_at, with_status, set_status, parent_of, wake, finish, given_for, given_work, given_push, given_trace, obligations_after, released, after_event, happens}
 use Rattle.up_machine.specs.Rounds.{end_of}
 use Rattle.up_machine.proofs.Dues.{due_work, due_push, due_trace}
@@ -38,8 +37,8 @@ use Rattle.up_core.specs.Known.{IsJobEnd}
 use Rattle.up_core.specs.Mirror.{Pairs, IsStatusOf, IsObligationOf, IsClauseOf, IsDoneAt, IsJobOf, IsMirror}
 use Rattle.up_core.specs.Steps.{change_where, with_progress, parent_in, finished, entry_of, work_of_job, push_of_job, work_in, push_in, others_of, calm_of}
 use Rattle.up_core.proofs.Chosen.{done_seed-same}
-use Rattle.up_core.proofs.Grown.{status-stays, world-stays, obligation-stays, obligations-stay, clauses-kept}
-use Rattle.up_core.proofs.Pairing.{pairs-map, pairs-push, pairs-both, pairs-filter, pairs-find, pairs-count}
+use Rattle.up_core.proofs.Grown.{obligations-stay, clauses-kept}
+use Rattle.up_core.proofs.Pairing.{pairs-push, pairs-both, pairs-filter, pairs-find, pairs-count}
 
 -- tests of workers agree
 worker-same : (w : ℕ) (h : Held) (e : JobEntry) → IsJobOf h e → nat_eq h.worker w ≡ nat_eq e.worker w
@@ -162,22 +161,22 @@ module _ (sys : System) (history : List Event) (m : Machine) (s t : State) (mirr
   left-jobs w = jobs-released w m.jobs s.jobs.items mirror.jobs
 
   -- Advance
-  pub advance-next : (w : ℕ) → IsState t s.clauses.items s.obligations.items s.jobs.items (s.frontier + 1) s.secure None (s.productive + 1) s.ended →
+  pub advance-next : (w : ℕ) → IsState t s.clauses.items s.obligations.items s.jobs.items (s.clauses.frontier + 1) s.secure None (s.productive + 1) s.ended →
       IsNext (E.Advance w) (happens m (E.Advance w))
   advance-next w is =
       let e = E.Advance w in
       let n = happens m e in
-      together e n is (kept e n refl refl) (same-obligations e) mirror.jobs (one-more m.frontier s.frontier mirror.frontier) mirror.secure refl (one-more m.productive s.productive mirror.productive) mirror.ended
+      together e n is (kept e n refl refl) (same-obligations e) mirror.jobs (one-more m.frontier s.clauses.frontier mirror.frontier) mirror.secure refl (one-more m.productive s.productive mirror.productive) mirror.ended
 
   -- Close without a job
-  pub finish-next : (w : ℕ) (short : Short) → IsState t s.clauses.items s.obligations.items s.jobs.items s.frontier s.secure s.calm s.productive true →
+  pub finish-next : (w : ℕ) (short : Short) → IsState t s.clauses.items s.obligations.items s.jobs.items s.clauses.frontier s.secure s.calm s.productive true →
       IsNext (E.Close w (end_of short)) (happens m (E.Close w (end_of short)))
   finish-next w (S.Safe i) is = let e = E.Close w (N.Safe i) in let n = happens m e in together e n is (kept e n refl refl) (same-obligations e) mirror.jobs mirror.frontier mirror.secure mirror.calm mirror.productive refl
   finish-next w S.Bounded is = let e = E.Close w N.Bounded in let n = happens m e in together e n is (kept e n refl refl) (same-obligations e) mirror.jobs mirror.frontier mirror.secure mirror.calm mirror.productive refl
   finish-next w S.Spent is = let e = E.Close w N.Spent in let n = happens m e in together e n is (kept e n refl refl) (same-obligations e) mirror.jobs mirror.frontier mirror.secure mirror.calm mirror.productive refl
 
   -- Secure
-  pub secure-next : (w : ℕ) → IsState t s.clauses.items s.obligations.items (others_of w s.jobs.items) s.frontier s.frontier s.calm (s.productive + 1) s.ended →
+  pub secure-next : (w : ℕ) → IsState t s.clauses.items s.obligations.items (others_of w s.jobs.items) s.clauses.frontier s.clauses.frontier s.calm (s.productive + 1) s.ended →
       IsNext (E.Secure w) (happens m (E.Secure w))
   secure-next w is =
       let e = E.Secure w in
@@ -186,7 +185,7 @@ module _ (sys : System) (history : List Event) (m : Machine) (s t : State) (mirr
 
   -- Drop
   pub drop-next : (w k : ℕ) (work : HoldsWork m w) →
-      IsState t s.clauses.items (finished (work_in w s.jobs.items) s.obligations.items) (others_of w s.jobs.items) s.frontier s.secure s.calm (s.productive + 1) s.ended →
+      IsState t s.clauses.items (finished (work_in w s.jobs.items) s.obligations.items) (others_of w s.jobs.items) s.clauses.frontier s.secure s.calm (s.productive + 1) s.ended →
       IsNext (E.Drop w k) (happens m (E.Drop w k))
   drop-next w k work is =
       let e = E.Drop w k in
@@ -199,7 +198,7 @@ module _ (sys : System) (history : List Event) (m : Machine) (s t : State) (mirr
 
   abbrev IsPutBack : ℕ → Why → Type 0
   IsPutBack w why =
-      IsState t s.clauses.items (change_where (work_in w s.jobs.items) (with_progress P.Ready) s.obligations.items) (others_of w s.jobs.items) s.frontier s.secure (calm_of why w s.jobs.items s.calm) s.productive s.ended
+      IsState t s.clauses.items (change_where (work_in w s.jobs.items) (with_progress P.Ready) s.obligations.items) (others_of w s.jobs.items) s.clauses.frontier s.secure (calm_of why w s.jobs.items s.calm) s.productive s.ended
 
   -- Return
   back-next : (w : ℕ) (why : Why) (g : Given) → held_by m.jobs w ≡ Some g → (after_event (E.Return w why) (Some g) m).calm ≡ calm_of why w s.jobs.items s.calm → IsPutBack w why →
@@ -223,7 +222,7 @@ module _ (sys : System) (history : List Event) (m : Machine) (s t : State) (mirr
   return-next limits w Y.NoMemory may is = back-next w Y.NoMemory may.given may.held mirror.calm is
 
   -- Close by a job
-  pub close-next : (w : ℕ) (end : End) → IsJobEnd end → IsState t s.clauses.items s.obligations.items (others_of w s.jobs.items) s.frontier s.secure s.calm s.productive true →
+  pub close-next : (w : ℕ) (end : End) → IsJobEnd end → IsState t s.clauses.items s.obligations.items (others_of w s.jobs.items) s.clauses.frontier s.secure s.calm s.productive true →
       IsNext (E.Close w end) (happens m (E.Close w end))
   close-next w (N.Unsafe run) job is = let e = E.Close w (N.Unsafe run) in let n = happens m e in together e n is (kept e n refl refl) (same-obligations e) (left-jobs w) mirror.frontier mirror.secure mirror.calm mirror.productive refl
   close-next w N.NoUniversal job is = let e = E.Close w N.NoUniversal in let n = happens m e in together e n is (kept e n refl refl) (same-obligations e) (left-jobs w) mirror.frontier mirror.secure mirror.calm mirror.productive refl
@@ -259,7 +258,7 @@ module _ (sys : System) (history : List Event) (m : Machine) (s t : State) (mirr
   -- Take
   pub take-next : (w : ℕ) (job : Job) → IsTaken job →
       IsState t s.clauses.items (change_where (work_of_job job) (with_progress P.Out) s.obligations.items)
-      (s.jobs.items ++ record { worker = w; job = job; done = count_by is_done_seed s.obligations.items } ∷ []) s.frontier s.secure s.calm s.productive s.ended →
+      (s.jobs.items ++ record { worker = w; job = job; done = count_by is_done_seed s.obligations.items } ∷ []) s.clauses.frontier s.secure s.calm s.productive s.ended →
       IsNext (E.Take w job) (happens m (E.Take w job))
   take-next w job taken is =
       let e = E.Take w job in

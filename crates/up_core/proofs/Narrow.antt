@@ -1,5 +1,5 @@
 -- What is learnt from a state has no more variables than the state has elements.
-use Rattle.std.proofs.Common.{◌≡◌, ℕ, suc, ◌≤◌, ◌<◌, ◌++◌, Bool, List, length, map, filter, take, drop, sum, arith}
+use Rattle.std.proofs.Common.{ℕ, suc, ◌≤◌, ◌++◌, Bool, length, map, filter, take, drop, sum, arith}
 use Rattle.std.specs.Prelude.{slice_index}
 use Rattle.std.specs.List.{range_with_len}
 use Rattle.std.proofs.lemmas.List.{length-map}

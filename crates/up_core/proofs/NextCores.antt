@@ -1,5 +1,5 @@
 -- The machine in code after an event.
-use Rattle.std.proofs.Common.{◌≡◌, ℕ, suc, ◌-◌, ◌^◌, ◌<◌, ◌≤◌, Bool, true, false, cond, not, List, [], ◌∷◌, ◌++◌, length, find, nat_eq, Option, None, Some, refl, sym, subst, ◌∙◌, arith, inl, inr}
+use Rattle.std.proofs.Common.{◌≡◌, ℕ, suc, ◌-◌, ◌^◌, ◌<◌, ◌≤◌, Bool, true, false, cond, not, List, [], ◌∷◌, ◌++◌, length, find, nat_eq, Option, None, Some, refl, sym, subst, ◌∙◌, arith, inl, inr, ◌⊎◌}
 use Rattle.std.specs.Global.{Vec}
 use Rattle.std.specs.Vec.{vec_len}
 use Rattle.fo_core.specs.declared.order.Order.{Order}
@@ -19,6 +19,7 @@ use Rattle.up_machine.specs.Legal.{IsLegal, IsAllowed, Legal}
 use Rattle.up_machine.specs.Machine.{Given, Held, Machine, start, held_by}
 use Rattle.up_machine.specs.Ranges.{AreInRange}
 use Rattle.up_machine.specs.Replay.{happens, replay, released}
+use Rattle.up_machine.proofs.FrameEvents.{history_sound}
 use Rattle.up_machine.proofs.Histories.{legal-push, replay-push}
 use Rattle.up_machine.proofs.Holding.{held-at}
 use Rattle.up_machine.proofs.Lists.{none_is_some, get-lt, mapped_some}
@@ -127,7 +128,11 @@ module _ (sys : System) (order : Order) (limits : Limits) (history : Vec Event) 
       let most = core.in_range.steps.high in
       let cs = pairs-length here.clauses s.clauses.items _ core.mirror.clauses in
       let os = pairs-length here.obligations s.obligations.items _ core.mirror.obligations in
-      record { clauses = omega (arith, few.clauses, few.steps); obligations = omega (arith, few.obligations, few.steps) }
+      record { clauses = omega (arith, few.clauses, few.steps); obligations = omega (arith, few.obligations, few.steps); secure = near (history_sound sys limits history.items core.legal).secure_near }
+    where
+      near : (here.secure ≡ here.frontier) ⊎ (suc here.secure ≡ here.frontier) → s.secure ≤ s.clauses.frontier
+      near (inl e) = let a = core.mirror.secure in let b = core.mirror.frontier in omega (arith, a, b, e)
+      near (inr e) = let a = core.mirror.secure in let b = core.mirror.frontier in omega (arith, a, b, e)
 
   pub steps-low : limits.steps < 2 ^ 32 - 1
   steps-low = let most = core.in_range.steps.high in omega arith
@@ -186,8 +191,8 @@ module _ (sys : System) (order : Order) (limits : Limits) (history : Vec Event) 
   pub jobs-are : length here.jobs ≡ vec_len s.jobs
   jobs-are = pairs-length here.jobs s.jobs.items _ core.mirror.jobs ∙ sym s.jobs.ok.0
 
-  pub numbers-are : (n : ℕ) → n ≡ length s.clauses.items → numbers_of here ≡ record { productive = s.productive; frontier = s.frontier; clauses = n }
-  numbers-are n is = numbers-same core.mirror.productive core.mirror.frontier (pairs-length here.clauses s.clauses.items _ core.mirror.clauses ∙ sym is)
+  pub numbers-are : (n last : ℕ) → n ≡ length s.clauses.items → last ≡ s.clauses.frontier → numbers_of here ≡ record { productive = s.productive; frontier = last; clauses = n }
+  numbers-are n last is last_is = numbers-same core.mirror.productive (core.mirror.frontier ∙ sym last_is) (pairs-length here.clauses s.clauses.items _ core.mirror.clauses ∙ sym is)
 
 -- a machine before any event
 pub core-new : (sys : System) (order : Order) (limits : Limits) (history : Vec Event) (s : State) (picks : ℕ) → CanInfer sys order → AreInRange limits → history.items ≡ [] → vec_len history ≡ 0 →

@@ -1,6 +1,6 @@
 -- The places of the elements that pass a test.
-use Rattle.std.proofs.Common.{◌≡◌, ℕ, zero, suc, ◌+◌, ◌<◌, ◌≤◌, Bool, true, false, cond, not, nat_eq, List, [], ◌∷◌, ◌++◌, length, filter, get_or, take, Option, None, Some, slice_get, refl, sym, ap, subst, ◌∙◌, ◌⊎◌, inl, inr, arith, true≢false, eqb-true, eq-eqb}
-use Rattle.std.specs.List.{flat_map}
+use Rattle.std.proofs.Common.{◌≡◌, ℕ, zero, suc, ◌+◌, ◌<◌, ◌≤◌, Bool, true, false, cond, not, ◌&&◌, ◌||◌, nat_eq, List, [], ◌∷◌, ◌++◌, length, filter, get_or, take, Some, slice_get, refl, sym, ap, subst, ◌∙◌, ◌⊎◌, inl, inr, arith, true≢false, eqb-true, eq-eqb}
+use Rattle.std.specs.List.{flat_map, list_any}
 use Rattle.std.specs.Option.{option_map_or}
 use Rattle.std.proofs.lemmas.Bool.{cases_lt, cases_order}
 use Rattle.std.proofs.lemmas.List.{flat_map_more, take_all, take_more}
@@ -150,6 +150,35 @@ module _ {X : Type 0} (test : X → Bool) where
         let here : n ≡ n + 0 = omega arith in
         flat-by n x (places_from test (suc n) xs) (flat_map g xs) (test x) refl (ap h here ∙ is 0 x refl)
         (places-flat (suc n) xs (λ k y e. let same : suc n + k ≡ n + suc k = omega arith in ap h same ∙ is (suc k) y e))
+
+  -- of the places of elements that pass one test those whose elements pass another, which only such
+  -- elements do
+  module _ (other : X → Bool) (h : ℕ → List ℕ) (only : (x : X) → other x ≡ true → test x ≡ true) where
+    among-by : (n : ℕ) (x : X) (ks rest : List ℕ) (a b : Bool) → test x ≡ a → other x ≡ b → h n ≡ cond b (n ∷ []) [] → flat_map h ks ≡ rest → flat_map h (first_by n ks a) ≡ first_by n rest b
+    among-by n x ks rest true true t o e f = ap (λ l. l ++ flat_map h ks) e ∙ ap (λ l. n ∷ l) f
+    among-by n x ks rest true false t o e f = ap (λ l. l ++ flat_map h ks) e ∙ f
+    among-by n x ks rest false true t o e f = absurd (true≢false (sym (only x o) ∙ t))
+    among-by n x ks rest false false t o e f = f
+
+    pub places-among : (n : ℕ) (xs : List X) → ((k : ℕ) (x : X) → slice_get xs k ≡ Some x → h (n + k) ≡ cond (other x) ((n + k) ∷ []) []) → flat_map h (places_from test n xs) ≡ places_from other n xs
+    places-among n [] is = refl
+    places-among n (x ∷ xs) is =
+        let here : n + 0 ≡ n = omega arith in
+        among-by n x (places_from test (suc n) xs) (places_from other (suc n) xs) (test x) (other x) refl refl (ap h (sym here) ∙ is 0 x refl ∙ ap (λ j. cond (other x) (j ∷ []) []) here)
+        (places-among (suc n) xs (λ k y e. let same : suc n + k ≡ n + suc k = omega arith in ap h same ∙ is (suc k) y e ∙ ap (λ j. cond (other y) (j ∷ []) []) (sym same)))
+
+  -- whether one that passes has a further property
+  module _ (more : X → Bool) (h : ℕ → Bool) where
+    any-by : (n : ℕ) (ks : List ℕ) (rest m a : Bool) → h n ≡ m → list_any h ks ≡ rest → list_any h (first_by n ks a) ≡ ((a && m) || rest)
+    any-by n ks rest m true e f = ap (λ b. b || list_any h ks) e ∙ ap (λ b. m || b) f
+    any-by n ks rest m false e f = f
+
+    pub places-any : (n : ℕ) (xs : List X) → ((k : ℕ) (x : X) → slice_get xs k ≡ Some x → h (n + k) ≡ more x) → list_any h (places_from test n xs) ≡ list_any (λ x. test x && more x) xs
+    places-any n [] is = refl
+    places-any n (x ∷ xs) is =
+        let here : n ≡ n + 0 = omega arith in
+        any-by n (places_from test (suc n) xs) (list_any (λ y. test y && more y) xs) (more x) (test x) (ap h here ∙ is 0 x refl)
+        (places-any (suc n) xs (λ k y e. let same : suc n + k ≡ n + suc k = omega arith in ap h same ∙ is (suc k) y e))
 
 -- the places counted from 0
 module _ {X : Type 0} (test : X → Bool) (xs : List X) where

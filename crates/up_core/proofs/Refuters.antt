@@ -1,5 +1,5 @@
 -- Which clause of the machine refutes a state, by the entries of its clauses.
-use Rattle.std.proofs.Common.{◌≡◌, ℕ, zero, suc, ◌<◌, ◌≤◌, Bool, true, List, length, Option, None, Some, slice_get, refl, sym, ap, subst, ◌∙◌, arith}
+use Rattle.std.proofs.Common.{◌≡◌, ℕ, ◌<◌, ◌≤◌, true, List, length, Some, slice_get, sym, subst, ◌∙◌}
 use Rattle.fo_core.specs.declared.system.System.{System}
 use Rattle.fo_core.specs.declared.world.World.{World}
 use Rattle.fo_core.specs.Runs.{IsState}
@@ -16,8 +16,8 @@ use Rattle.up_machine.proofs.Frames.{each-avoids}
 use Rattle.up_machine.proofs.Lists.{some_injective, two_places}
 use Rattle.up_core.specs.declared.state.ClauseEntry.{ClauseEntry}
 use Rattle.up_core.specs.declared.state.State.{State}
-use Rattle.up_core.specs.Mirror.{Pairs, IsCubeAt, IsClauseOf, IsMirror}
-use Rattle.up_core.specs.Refuting.{CanTry, AreTriable, IsMetAt, IsRefuting, IsFirstMet}
+use Rattle.up_core.specs.Mirror.{IsCubeAt, IsClauseOf, IsMirror}
+use Rattle.up_core.specs.Refuting.{AreTriable, IsRefuting}
 use Rattle.up_core.specs.Room.{IsRoomy}
 use Rattle.up_core.proofs.Pairing.{pairs-left, pairs-right}
 

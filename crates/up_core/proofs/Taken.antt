@@ -10,7 +10,7 @@ use Rattle.up_machine.specs.declared.job.Task.TheVariants as T
 use Rattle.up_machine.specs.declared.limits.Limits.{Limits}
 use Rattle.up_machine.specs.Due.{IsDue, job_of}
 use Rattle.up_machine.specs.Legal.{IsLegal, AreLegal, Legal}
-use Rattle.up_machine.specs.Machine.{Clause, Ready, Out, Obligation, Given, Work, Look, Push, Trace, Held, Machine, start, cubes_from, is_done, is_done_seed, is_unfinished_seed, to_avoid, done_seeds, held_by}
+use Rattle.up_machine.specs.Machine.{Clause, Ready, Out, Obligation, Given, Look, Held, Machine, start, cubes_from, is_done, is_done_seed, is_unfinished_seed, to_avoid, done_seeds, held_by}
 use Rattle.up_machine.specs.Replay.{change_at, with_status, set_status, given_work, given_push, given_trace, given_for, worker_of, jobs_after, obligations_after, happens, run, replay}
 use Rattle.up_machine.specs.Sound.{Each}
 use Rattle.up_machine.proofs.Dues.{due_work}

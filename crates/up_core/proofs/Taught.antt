@@ -1,8 +1,7 @@
 -- The numbers after a clause is learnt or rises are those of the machine after it.
-use Rattle.std.proofs.Common.{◌≡◌, ℕ, zero, suc, ◌+◌, ◌-◌, ◌<◌, ◌≤◌, Bool, true, false, List, [], ◌∷◌, ◌++◌, length, Option, None, Some, is_some, slice_get, refl, sym, ap, subst, ◌∙◌, arith, Any}
+use Rattle.std.proofs.Common.{◌≡◌, ℕ, suc, ◌+◌, true, List, [], ◌∷◌, ◌++◌, length, Some, slice_get, refl, sym, ap, subst, ◌∙◌, arith}
 use Rattle.std.specs.Option.{option_and_then}
 use Rattle.fo_core.specs.declared.system.System.{System}
-use Rattle.fo_core.specs.declared.world.World.{World}
 use Rattle.fo_core.specs.Sorted.{IsSystem}
 use Rattle.up_diagram.specs.declared.cube.Cube.{Cube}
 use Rattle.up_machine.specs.declared.event.Event.{Event}
@@ -11,12 +10,12 @@ use Rattle.up_machine.specs.declared.limits.Limits.{Limits}
 use Rattle.up_machine.specs.Due.{IsValid}
 use Rattle.up_machine.specs.Finding.{HoldsWork, HoldsPush}
 use Rattle.up_machine.specs.Legal.{Legal}
-use Rattle.up_machine.specs.Machine.{Clause, FailedPush, Given, Work, Push, Machine}
-use Rattle.up_machine.specs.Replay.{change_at, raised, after_event, happens, replay}
+use Rattle.up_machine.specs.Machine.{Clause, Work, Push, Machine}
+use Rattle.up_machine.specs.Replay.{raised, after_event, happens, replay}
 use Rattle.up_machine.specs.Sound.{IsFrameSound, AreSoundFails}
 use Rattle.up_machine.proofs.Fails.{history_fails}
 use Rattle.up_machine.proofs.FrameEvents.{given_sound, history_sound}
-use Rattle.up_machine.proofs.Lists.{get-lt, two_places, some_injective}
+use Rattle.up_machine.proofs.Lists.{get-lt, two_places}
 use Rattle.up_machine.proofs.OneValid.{one_valid}
 use Rattle.up_core.specs.declared.state.ClauseEntry.{ClauseEntry}
 use Rattle.up_core.specs.declared.state.State.{State}
@@ -60,7 +59,7 @@ module _ (sys : System) (limits : Limits) (history : List Event) (s t : State) (
 
   -- Learn
   pub learn-next : (w : ℕ) (cube : Cube) (work : HoldsWork m w) (level : ℕ) → work.level ≡ level → IsLearnt history sys.sig cube level found s.clauses.items t.clauses.items →
-      IsState t t.clauses.items (finished (work_in w s.jobs.items) s.obligations.items) (others_of w s.jobs.items) s.frontier s.secure s.calm (s.productive + 1) s.ended →
+      IsState t t.clauses.items (finished (work_in w s.jobs.items) s.obligations.items) (others_of w s.jobs.items) s.clauses.frontier s.secure s.calm (s.productive + 1) s.ended →
       IsThen (E.Learn w cube) (happens m (E.Learn w cube))
   learn-next w cube work level level_is learnt is =
       let e = E.Learn w cube in
@@ -84,7 +83,7 @@ module _ (sys : System) (limits : Limits) (history : List Event) (s t : State) (
 
   -- Raise
   pub raise-next : (w : ℕ) (push : HoldsPush m w) → ((x : ClauseEntry) → pushed_in w s.clauses.items s.jobs.items ≡ Some x → IsRaised history sys.sig (push_in w s.jobs.items) s.clauses.items t.clauses.items x) →
-      IsState t t.clauses.items s.obligations.items (others_of w s.jobs.items) s.frontier s.secure s.calm (s.productive + 1) s.ended →
+      IsState t t.clauses.items s.obligations.items (others_of w s.jobs.items) s.clauses.frontier s.secure s.calm (s.productive + 1) s.ended →
       IsThen (E.Raise w) (happens m (E.Raise w))
   raise-next w push rises is =
       let e = E.Raise w in

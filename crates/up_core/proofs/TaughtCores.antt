@@ -1,5 +1,5 @@
 -- The machine in code after a clause is learnt or rises.
-use Rattle.std.proofs.Common.{◌≡◌, ℕ, zero, suc, ◌+◌, ◌-◌, ◌^◌, ◌<◌, ◌≤◌, Bool, true, false, List, [], ◌∷◌, ◌++◌, length, sum, Option, None, Some, is_some, slice_get, refl, sym, ap, subst, ◌∙◌, arith}
+use Rattle.std.proofs.Common.{◌≡◌, ℕ, ◌+◌, ◌-◌, ◌<◌, ◌≤◌, true, length, Some, slice_get, refl, sym, ap, subst, ◌∙◌, arith}
 use Rattle.std.specs.Global.{Vec}
 use Rattle.std.specs.Option.{option_and_then}
 use Rattle.fo_core.specs.declared.order.Order.{Order}
@@ -12,9 +12,8 @@ use Rattle.up_claims.specs.Blocked.{IsBlocked}
 use Rattle.up_machine.specs.declared.event.Event.{Event}
 use Rattle.up_machine.specs.declared.event.Event.TheVariants as E
 use Rattle.up_machine.specs.declared.limits.Limits.{Limits}
-use Rattle.up_machine.specs.Finding.{HoldsWork, HoldsPush}
-use Rattle.up_machine.specs.Machine.{Clause, Given, Work, Push, Machine, held_by}
-use Rattle.up_machine.specs.Replay.{clauses_after, happens, replay}
+use Rattle.up_machine.specs.Machine.{Clause, Given, Work, Push, Machine}
+use Rattle.up_machine.specs.Replay.{clauses_after, replay}
 use Rattle.up_machine.specs.Sound.{IsFit, IsFrameSound, AreSoundFails}
 use Rattle.up_machine.proofs.Fails.{history_fails}
 use Rattle.up_machine.proofs.Fit.{history_fit, event_fit}
@@ -28,11 +27,11 @@ use Rattle.up_core.specs.Becoming.{IsState}
 use Rattle.up_core.specs.Holding.{IsCore}
 use Rattle.up_core.specs.Known.{IsKnown, IsNow}
 use Rattle.up_core.specs.Lapsing.{AreLapsable, CanHit, CanRise, IsLearnt, IsRaised}
-use Rattle.up_core.specs.Mirror.{IsCubeAt, IsWorldAt, IsValidPush, IsValidAt, IsClauseOf}
+use Rattle.up_core.specs.Mirror.{IsValidPush, IsValidAt, IsClauseOf}
 use Rattle.up_core.specs.Refuting.{pushed_in}
 use Rattle.up_core.specs.Room.{IsRoomyFor}
 use Rattle.up_core.specs.Steps.{finished, work_in, push_in, others_of}
-use Rattle.up_core.specs.View.{CoreView, now}
+use Rattle.up_core.specs.View.{CoreView}
 use Rattle.up_core.proofs.Counts.{history_few}
 use Rattle.up_core.proofs.EventCores.{IsLonger}
 use Rattle.up_core.proofs.Mirrors.{has-entry, push-is}
@@ -109,7 +108,7 @@ module _ (sys : System) (order : Order) (limits : Limits) (history : Vec Event) 
 
     pub learn-core : (h : Vec Event) (t : State) (level n : ℕ) → known.work.level ≡ level → n ≡ length history.items → IsLonger history (E.Learn w cube) h → KeepsRoom sys order limits history s spare picks variables widest core t →
         IsLearnt history.items sys.sig cube level n s.clauses.items t.clauses.items →
-        IsState t t.clauses.items (finished (work_in w s.jobs.items) s.obligations.items) (others_of w s.jobs.items) s.frontier s.secure s.calm (s.productive + 1) s.ended →
+        IsState t t.clauses.items (finished (work_in w s.jobs.items) s.obligations.items) (others_of w s.jobs.items) s.clauses.frontier s.secure s.calm (s.productive + 1) s.ended →
         IsCore sys order limits h t (spare - 1) picks variables widest
     learn-core h t level n level_is found_is longer room learnt is =
         report sys order limits history s spare picks variables widest core (E.Learn w cube) w given h t widest (omega arith)
@@ -139,7 +138,7 @@ module _ (sys : System) (order : Order) (limits : Limits) (history : Vec Event) 
 
     pub raise-core : (h : Vec Event) (t : State) → IsNow view (E.Raise w) → IsLonger history (E.Raise w) h → KeepsRoom sys order limits history s spare picks variables widest core t →
         ((x : ClauseEntry) → pushed_in w s.clauses.items s.jobs.items ≡ Some x → IsRaised history.items sys.sig (push_in w s.jobs.items) s.clauses.items t.clauses.items x) →
-        IsState t t.clauses.items s.obligations.items (others_of w s.jobs.items) s.frontier s.secure s.calm (s.productive + 1) s.ended →
+        IsState t t.clauses.items s.obligations.items (others_of w s.jobs.items) s.clauses.frontier s.secure s.calm (s.productive + 1) s.ended →
         IsCore sys order limits h t (spare - 1) picks variables widest
     raise-core h t now_is longer room rises is =
         report sys order limits history s spare picks variables widest core (E.Raise w) w pushed h t widest (omega arith)

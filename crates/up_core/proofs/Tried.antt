@@ -1,5 +1,5 @@
 -- What the tests of events find.
-use Rattle.std.proofs.Common.{◌≡◌, ℕ, zero, suc, ◌+◌, ◌-◌, ◌^◌, ◌<◌, ◌≤◌, Bool, true, false, List, length, Option, None, Some, is_some, slice_get, refl, sym, ap, subst, ◌∙◌, arith, ◌⊎◌, inl, inr}
+use Rattle.std.proofs.Common.{◌≡◌, ℕ, suc, ◌-◌, ◌<◌, ◌≤◌, length, Option, None, Some, slice_get, refl, sym, ap, subst, ◌∙◌, arith, ◌⊎◌, inl, inr}
 use Rattle.std.proofs.lemmas.Bool.{cases_lt}
 use Rattle.std.specs.Global.{Vec}
 use Rattle.std.specs.Option.{option_and_then}
@@ -7,7 +7,6 @@ use Rattle.fo_core.specs.declared.order.Order.{Order}
 use Rattle.fo_core.specs.declared.system.System.{System}
 use Rattle.fo_core.specs.declared.world.World.{World}
 use Rattle.fo_core.specs.Runs.{IsState}
-use Rattle.up_diagram.specs.declared.cube.Cube.{Cube}
 use Rattle.fo_core.specs.Tables.{Fits}
 use Rattle.up_claims.specs.Finding.{IsSeed, IsStepInto}
 use Rattle.up_claims.specs.Frames.{IsInFrame}
@@ -16,23 +15,21 @@ use Rattle.up_machine.specs.declared.event.Event.TheVariants as E
 use Rattle.up_machine.specs.declared.event.Origin.{Origin}
 use Rattle.up_machine.specs.declared.event.Origin.TheVariants as O
 use Rattle.up_machine.specs.declared.limits.Limits.{Limits}
-use Rattle.up_machine.specs.Due.{job_of}
-use Rattle.up_machine.specs.Finding.{HoldsWork, HoldsPush, state_cube, state_cubes}
-use Rattle.up_machine.specs.Machine.{Clause, Obligation, Given, Work, Look, Push, Trace, Machine, IsIn, IsFirstRefuter}
+use Rattle.up_machine.specs.Finding.{HoldsWork, state_cube, state_cubes}
+use Rattle.up_machine.specs.Machine.{Obligation, Given, Work, Look, Push, Trace, Machine, IsIn, IsFirstRefuter}
 use Rattle.up_machine.specs.Replay.{replay}
 use Rattle.up_machine.specs.Sound.{IsFit, IsFrameSound, IsSoundOrigin}
 use Rattle.up_machine.proofs.Fit.{history_fit}
 use Rattle.up_machine.proofs.FrameEvents.{given_sound, history_sound}
 use Rattle.up_machine.proofs.Lists.{some_injective, none_is_some}
-use Rattle.up_machine.proofs.Origins.{found_seed, found_root, found_step, found_fail, history_origins}
+use Rattle.up_machine.proofs.Origins.{found_seed, found_step, found_fail, history_origins}
 use Rattle.up_core.specs.declared.state.ClauseEntry.{ClauseEntry}
 use Rattle.up_core.specs.declared.state.ObligationEntry.{ObligationEntry}
 use Rattle.up_core.specs.declared.state.State.{State}
 use Rattle.up_core.specs.Holding.{IsCore}
-use Rattle.up_core.specs.Known.{IsKnown, IsInPlace, FoundIsRefutedBy, KnowsSeed, KnowsCube, KnowsRoot, KnowsStep, KnowsFail, OwnIsIn, StepIsIn, FailIsIn, RefutesOwn, RefutesStep, RefutesFail}
+use Rattle.up_core.specs.Known.{IsKnown, IsInPlace, FoundIsRefutedBy, KnowsSeed, KnowsStep, KnowsFail, OwnIsIn, StepIsIn, FailIsIn, RefutesOwn, RefutesStep, RefutesFail}
 use Rattle.up_core.specs.Mirror.{IsWorldAt, IsObligationOf, IsClauseOf}
 use Rattle.up_core.specs.Refuting.{AreTriable, AreTriableForOwn, IsFirstMet, IsFirstOwn, IsOwn, IsFirstBelow, IsFirstPushed, own_in, pushed_in}
-use Rattle.up_core.specs.Steps.{work_in, push_in}
 use Rattle.up_core.specs.View.{CoreView, now}
 use Rattle.up_core.proofs.Grounded.{grounded}
 use Rattle.up_core.proofs.Mirrors.{has-entry, work-is, push-is}
@@ -77,11 +74,11 @@ module _ (sys : System) (order : Order) (limits : Limits) (history : Vec Event) 
     pub seed-tries : AreTriable history.items sys.sig world picks s.clauses.items
     seed-tries = tries world 0 seed.fits seed.copies
 
-    pub seed-inside : IsFirstMet history.items sys.sig world s.frontier s.clauses.items None → IsIn sys here here.frontier world 0
-    seed-inside none = subst (λ i. IsIn sys here i world 0) (sym core.mirror.frontier) (inside-of sys history.items here s core.mirror world s.frontier (subst (λ i. 1 ≤ i) core.mirror.frontier sound.begun) seed.state none)
+    pub seed-inside : IsFirstMet history.items sys.sig world s.clauses.frontier s.clauses.items None → IsIn sys here here.frontier world 0
+    seed-inside none = subst (λ i. IsIn sys here i world 0) (sym core.mirror.frontier) (inside-of sys history.items here s core.mirror world s.clauses.frontier (subst (λ i. 1 ≤ i) core.mirror.frontier sound.begun) seed.state none)
 
-    pub seed-refuted : (k : ℕ) → IsFirstMet history.items sys.sig world s.frontier s.clauses.items (Some k) → IsFirstRefuter sys here here.frontier world 0 k
-    seed-refuted k first = subst (λ i. IsFirstRefuter sys here i world 0 k) (sym core.mirror.frontier) (refuter-of sys history.items here s core.mirror world s.frontier k (subst (λ i. 1 ≤ i) core.mirror.frontier sound.begun) first)
+    pub seed-refuted : (k : ℕ) → IsFirstMet history.items sys.sig world s.clauses.frontier s.clauses.items (Some k) → IsFirstRefuter sys here here.frontier world 0 k
+    seed-refuted k first = subst (λ i. IsFirstRefuter sys here i world 0 k) (sym core.mirror.frontier) (refuter-of sys history.items here s core.mirror world s.clauses.frontier k (subst (λ i. 1 ≤ i) core.mirror.frontier sound.begun) first)
 
   -- what is found before an obligation is found by a work
   pub known-work : (w : ℕ) (o : Origin) → IsKnown view (E.Before w o) → HoldsWork (now view) w

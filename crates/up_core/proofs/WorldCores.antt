@@ -1,5 +1,5 @@
 -- The machine in code after an event that brings a world or makes a clause go.
-use Rattle.std.proofs.Common.{◌≡◌, ℕ, zero, suc, ◌+◌, ◌-◌, ◌<◌, ◌≤◌, Bool, true, false, List, [], ◌∷◌, ◌++◌, length, sum, Option, None, Some, is_some, refl, sym, ap, subst, ◌∙◌, arith}
+use Rattle.std.proofs.Common.{◌≡◌, ℕ, ◌+◌, ◌-◌, ◌<◌, ◌≤◌, true, false, [], ◌∷◌, ◌++◌, length, sum, None, Some, is_some, refl, sym, ap, subst, ◌∙◌, arith}
 use Rattle.std.specs.Global.{Vec}
 use Rattle.std.specs.Vec.{vec_len, vec_capacity}
 use Rattle.std.specs.Option.{option_to_list}
@@ -24,7 +24,7 @@ use Rattle.up_core.specs.Known.{IsKnown, IsNow}
 use Rattle.up_core.specs.Mirror.{IsMirror}
 use Rattle.up_core.specs.Room.{HasRoom, HasSpare}
 use Rattle.up_core.specs.Steps.{change_where, with_progress, entry_before, failed_entry, gone_entry, work_in, push_in, others_of}
-use Rattle.up_core.specs.View.{CoreView, now, elements_in}
+use Rattle.up_core.specs.View.{CoreView, elements_in}
 use Rattle.up_core.proofs.Brought.{seed-next, root-next, precede-next, fail-next, retire-next}
 use Rattle.up_core.proofs.EventCores.{IsLonger, spare-down}
 use Rattle.up_core.proofs.Marks.{clauses-go}
@@ -90,7 +90,7 @@ module _ (sys : System) (order : Order) (limits : Limits) (history : Vec Event) 
   found = length history.items
 
   pub seed-core : (w : ℕ) (world : World) (h : Vec Event) (t : State) (wide : ℕ) → widest ≤ wide → sum world.sizes ≤ wide → IsKnown view (E.Seed w world) → IsNow view (E.Seed w world) → IsLonger history (E.Seed w world) h → KeepsRoom t →
-      IsState t s.clauses.items (s.obligations.items ++ record { level = s.frontier; found = found; parent = None; progress = P.Ready } ∷ []) (others_of w s.jobs.items) s.frontier s.secure s.calm (s.productive + 1) s.ended →
+      IsState t s.clauses.items (s.obligations.items ++ record { level = s.clauses.frontier; found = found; parent = None; progress = P.Ready } ∷ []) (others_of w s.jobs.items) s.clauses.frontier s.secure s.calm (s.productive + 1) s.ended →
       IsCore sys order limits h t (spare - 1) picks variables wide
   seed-core w world h t wide wider fits known now_is longer room is =
       report (E.Seed w world) w _ h t wide wider
@@ -98,14 +98,14 @@ module _ (sys : System) (order : Order) (limits : Limits) (history : Vec Event) 
       (seed-next sys history.items here s t core.mirror w world is)
 
   root-core : (w : ℕ) (u : World) (h : Vec Event) (t : State) (wide : ℕ) → widest ≤ wide → IsKnown view (E.Before w (O.Initial u)) → IsNow view (E.Before w (O.Initial u)) → IsLonger history (E.Before w (O.Initial u)) h → KeepsRoom t →
-      IsState t s.clauses.items (change_where (work_in w s.jobs.items) (with_progress (P.Rooted found)) s.obligations.items) (others_of w s.jobs.items) s.frontier s.secure s.calm (s.productive + 1) s.ended →
+      IsState t s.clauses.items (change_where (work_in w s.jobs.items) (with_progress (P.Rooted found)) s.obligations.items) (others_of w s.jobs.items) s.clauses.frontier s.secure s.calm (s.productive + 1) s.ended →
       IsCore sys order limits h t (spare - 1) picks variables wide
   root-core w u h t wide wider known now_is longer room is =
       report (E.Before w (O.Initial u)) w _ h t wide wider (record { cubes = λ c e. none_is_some c e; states = λ o e. none_is_some o e; taken = tt }) known.work.held known now_is refl longer room
       (root-next sys history.items here s t core.mirror w u known.work is)
 
   precede-core : (w : ℕ) (p : World) (h : Vec Event) (t : State) (wide : ℕ) → widest ≤ wide → sum p.sizes ≤ wide → IsKnown view (E.Before w (O.Step p)) → IsNow view (E.Before w (O.Step p)) → IsLonger history (E.Before w (O.Step p)) h → KeepsRoom t →
-      IsState t s.clauses.items (change_where (work_in w s.jobs.items) (with_progress P.Waiting) s.obligations.items ++ option_to_list (entry_before s.obligations.items (work_in w s.jobs.items) found)) (others_of w s.jobs.items) s.frontier s.secure s.calm (s.productive + 1) s.ended →
+      IsState t s.clauses.items (change_where (work_in w s.jobs.items) (with_progress P.Waiting) s.obligations.items ++ option_to_list (entry_before s.obligations.items (work_in w s.jobs.items) found)) (others_of w s.jobs.items) s.clauses.frontier s.secure s.calm (s.productive + 1) s.ended →
       IsCore sys order limits h t (spare - 1) picks variables wide
   precede-core w p h t wide wider fits known now_is longer room is =
       report (E.Before w (O.Step p)) w _ h t wide wider
@@ -118,14 +118,14 @@ module _ (sys : System) (order : Order) (limits : Limits) (history : Vec Event) 
   before-core w (O.Step p) h t wide wider fits known now_is longer room is = precede-core w p h t wide wider fits known now_is longer room is
 
   pub fail-core : (w : ℕ) (p : World) (h : Vec Event) (t : State) → IsKnown view (E.Fail w p) → IsNow view (E.Fail w p) → IsLonger history (E.Fail w p) h → KeepsRoom t →
-      IsState t (change_where (push_in w s.jobs.items) (failed_entry found) s.clauses.items) s.obligations.items (others_of w s.jobs.items) s.frontier s.secure s.calm (s.productive + 1) s.ended →
+      IsState t (change_where (push_in w s.jobs.items) (failed_entry found) s.clauses.items) s.obligations.items (others_of w s.jobs.items) s.clauses.frontier s.secure s.calm (s.productive + 1) s.ended →
       IsCore sys order limits h t (spare - 1) picks variables widest
   fail-core w p h t known now_is longer room is =
       report (E.Fail w p) w _ h t widest (omega arith) (record { cubes = λ c e. none_is_some c e; states = λ o e. none_is_some o e; taken = tt }) known.push.held known now_is refl longer room
       (fail-next sys history.items here s t core.mirror w p known.push (sound sys order limits history s spare picks variables widest core) (now_is.in_place known.push) is)
 
   pub retire-core : (w gone by : ℕ) (h : Vec Event) (t : State) → length here.jobs + 1 ≤ spare → IsLegal sys limits here (E.Retire w gone by) → IsLonger history (E.Retire w gone by) h → KeepsRoom t →
-      IsState t (change_at gone gone_entry s.clauses.items) s.obligations.items s.jobs.items s.frontier s.secure s.calm s.productive s.ended →
+      IsState t (change_at gone gone_entry s.clauses.items) s.obligations.items s.jobs.items s.clauses.frontier s.secure s.calm s.productive s.ended →
       IsCore sys order limits h t (spare - 1) picks variables widest
   retire-core w gone by h t some legal longer room is =
       step (E.Retire w gone by) h t widest (omega arith) (record { cubes = λ c e. none_is_some c e; states = λ o e. none_is_some o e; taken = tt }) (omega (arith, some)) legal longer room
@@ -134,18 +134,18 @@ module _ (sys : System) (order : Order) (limits : Limits) (history : Vec Event) 
 
   -- the same, where the place of the event is told as it was found
   pub seed-core-at : (n : ℕ) → n ≡ found → (w : ℕ) (world : World) (h : Vec Event) (t : State) (wide : ℕ) → widest ≤ wide → sum world.sizes ≤ wide → IsKnown view (E.Seed w world) → IsNow view (E.Seed w world) → IsLonger history (E.Seed w world) h → KeepsRoom t →
-      IsState t s.clauses.items (s.obligations.items ++ record { level = s.frontier; found = n; parent = None; progress = P.Ready } ∷ []) (others_of w s.jobs.items) s.frontier s.secure s.calm (s.productive + 1) s.ended →
+      IsState t s.clauses.items (s.obligations.items ++ record { level = s.clauses.frontier; found = n; parent = None; progress = P.Ready } ∷ []) (others_of w s.jobs.items) s.clauses.frontier s.secure s.calm (s.productive + 1) s.ended →
       IsCore sys order limits h t (spare - 1) picks variables wide
   seed-core-at n e w world h t wide wider fits known now_is longer room is =
       seed-core w world h t wide wider fits known now_is longer room
-      (subst (λ n. IsState t s.clauses.items (s.obligations.items ++ record { level = s.frontier; found = n; parent = None; progress = P.Ready } ∷ []) (others_of w s.jobs.items) s.frontier s.secure s.calm (s.productive + 1) s.ended) e is)
+      (subst (λ n. IsState t s.clauses.items (s.obligations.items ++ record { level = s.clauses.frontier; found = n; parent = None; progress = P.Ready } ∷ []) (others_of w s.jobs.items) s.clauses.frontier s.secure s.calm (s.productive + 1) s.ended) e is)
 
   pub before-core-at : (n : ℕ) → n ≡ found → (w : ℕ) (o : Origin) (h : Vec Event) (t : State) (wide : ℕ) → widest ≤ wide → elements_in o ≤ wide → IsKnown view (E.Before w o) → IsNow view (E.Before w o) → IsLonger history (E.Before w o) h → KeepsRoom t →
       IsPreceded o w n s t → IsCore sys order limits h t (spare - 1) picks variables wide
   before-core-at n e w o h t wide wider fits known now_is longer room is = before-core w o h t wide wider fits known now_is longer room (subst (λ n. IsPreceded o w n s t) e is)
 
   pub fail-core-at : (n : ℕ) → n ≡ found → (w : ℕ) (p : World) (h : Vec Event) (t : State) → IsKnown view (E.Fail w p) → IsNow view (E.Fail w p) → IsLonger history (E.Fail w p) h → KeepsRoom t →
-      IsState t (change_where (push_in w s.jobs.items) (failed_entry n) s.clauses.items) s.obligations.items (others_of w s.jobs.items) s.frontier s.secure s.calm (s.productive + 1) s.ended →
+      IsState t (change_where (push_in w s.jobs.items) (failed_entry n) s.clauses.items) s.obligations.items (others_of w s.jobs.items) s.clauses.frontier s.secure s.calm (s.productive + 1) s.ended →
       IsCore sys order limits h t (spare - 1) picks variables widest
   fail-core-at n e w p h t known now_is longer room is =
-      fail-core w p h t known now_is longer room (subst (λ n. IsState t (change_where (push_in w s.jobs.items) (failed_entry n) s.clauses.items) s.obligations.items (others_of w s.jobs.items) s.frontier s.secure s.calm (s.productive + 1) s.ended) e is)
+      fail-core w p h t known now_is longer room (subst (λ n. IsState t (change_where (push_in w s.jobs.items) (failed_entry n) s.clauses.items) s.obligations.items (others_of w s.jobs.items) s.clauses.frontier s.secure s.calm (s.productive + 1) s.ended) e is)

@@ -15,7 +15,7 @@ pub record IsState (t : State) (clauses : List ClauseEntry) (obligations : List 
   pub clauses_are : t.clauses.items ≡ clauses
   pub obligations_are : t.obligations.items ≡ obligations
   pub jobs_are : t.jobs.items ≡ jobs
-  pub frontier_is : t.frontier ≡ frontier
+  pub frontier_is : t.clauses.frontier ≡ frontier
   pub secure_is : t.secure ≡ secure
   pub calm_is : t.calm ≡ calm
   pub productive_is : t.productive ≡ productive
@@ -28,10 +28,10 @@ IsPreceded (O.Initial u) w found s t =
     IsState t s.clauses.items
     (change_where (work_in w s.jobs.items) (with_progress (P.Rooted found)) s.obligations.items)
     (others_of w s.jobs.items)
-    s.frontier s.secure s.calm (s.productive + 1) s.ended
+    s.clauses.frontier s.secure s.calm (s.productive + 1) s.ended
 IsPreceded (O.Step p) w found s t =
     IsState t s.clauses.items
     (change_where (work_in w s.jobs.items) (with_progress P.Waiting) s.obligations.items
     ++ option_to_list (entry_before s.obligations.items (work_in w s.jobs.items) found))
     (others_of w s.jobs.items)
-    s.frontier s.secure s.calm (s.productive + 1) s.ended
+    s.clauses.frontier s.secure s.calm (s.productive + 1) s.ended

@@ -92,9 +92,9 @@ module _ (sig : Sig) (history : List Event) where
   abbrev pub look_brief : State → Brief
   look_brief s = record {
     job = J.Look;
-    level = s.frontier;
-    frame = listed history s.frontier s.clauses.items;
-    avoid = avoided s.frontier s.obligations.items;
+    level = s.clauses.frontier;
+    frame = listed history s.clauses.frontier s.clauses.items;
+    avoid = avoided s.clauses.frontier s.obligations.items;
     world = None;
     cube = None;
   }
@@ -106,4 +106,4 @@ module _ (sig : Sig) (history : List Event) where
   brief_at s J.Look = Some (look_brief s)
   brief_at s (J.Push k) =
       option_map (push_brief history s.clauses.items k) (slice_get s.clauses.items k)
-  brief_at s (J.Trace k) = option_map (trace_brief s.frontier k) (slice_get s.obligations.items k)
+  brief_at s (J.Trace k) = option_map (trace_brief s.clauses.frontier k) (slice_get s.obligations.items k)

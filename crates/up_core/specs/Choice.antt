@@ -1,5 +1,5 @@
 -- What is due, as it is chosen from the numbers that the code keeps.
-use Rattle.std.specs.Prelude.{◌≡◌, ℕ, ◌<◌, ◌≤◌, ◌^◌, Bool, true, false, not, ◌&&◌, nat_eq, nat_le, List, length, Option, Some, is_none, slice_get, MatchOption, ◌⊎◌}
+use Rattle.std.specs.Prelude.{◌≡◌, ℕ, ◌<◌, ◌≤◌, ◌^◌, Bool, true, false, not, ◌&&◌, nat_eq, List, length, Option, Some, is_none, slice_get, MatchOption, ◌⊎◌}
 use Rattle.std.specs.List.{list_any}
 use Rattle.fo_core.specs.declared.system.System.{System}
 use Rattle.up_machine.specs.declared.job.Job.{Job}
@@ -14,11 +14,13 @@ use Rattle.up_core.specs.declared.state.ObligationEntry.{ObligationEntry}
 use Rattle.up_core.specs.declared.state.Progress.{Progress}
 use Rattle.up_core.specs.declared.state.Progress.TheVariants as P
 use Rattle.up_core.specs.declared.state.State.{State}
+pub use Rattle.up_core.specs.Places.{has_level, may_rise}
 
--- numbers of clauses and obligations fit 32 bits
+-- numbers of clauses and obligations fit 32 bits, and the secure level is that of a frame
 pub record IsSmall (s : State) : Type 0 where
   pub clauses : length s.clauses.items < 2 ^ 32
   pub obligations : length s.obligations.items < 2 ^ 32
+  pub secure : s.secure ≤ s.clauses.frontier
 
 -- the first place that passes the test, if one does
 abbrev pub IsFirstPlace : {X : Type 0} → List X → (ℕ → X → Bool) → Option ℕ → Type 0
@@ -26,10 +28,6 @@ IsFirstPlace {X} xs test place =
     MatchOption place
     ((k : ℕ) (x : X) → slice_get xs k ≡ Some x → ¬ (test k x ≡ true))
     (λ k. IsFirst xs (λ j x. test j x ≡ true) k)
-
--- a live clause of exactly this level
-abbrev pub has_level : ℕ → ClauseEntry → Bool
-has_level i e = e.live && nat_eq e.level i
 
 abbrev pub is_rooted : Progress → Bool
 is_rooted (P.Rooted place) = true
@@ -79,11 +77,6 @@ is_push_of n (J.Trace k) = false
 
 abbrev pub has_job : (Job → Bool) → List JobEntry → Bool
 has_job test jobs = list_any (λ (e : JobEntry). test e.job) jobs
-
--- a live clause of level 1 to the frontier without a valid failed push
-abbrev pub may_rise : ℕ → ClauseEntry → Bool
-may_rise frontier e =
-    e.live && nat_le 1 e.level && nat_le e.level frontier && is_none e.failed
 
 -- such a clause, of number k, that no worker pushes
 abbrev pub is_to_push : ℕ → List JobEntry → ℕ → ClauseEntry → Bool

@@ -1,5 +1,5 @@
 -- Which clause may go for which, by their entries.
-use Rattle.std.specs.Prelude.{◌≡◌, ℕ, ◌<◌, ◌≤◌, ◌≢◌, true, false, List, length, Option, None, Some, slice_get, MatchOption, ◌⊎◌}
+use Rattle.std.specs.Prelude.{◌≡◌, ℕ, ◌<◌, ◌≤◌, ◌≢◌, true, false, List, length, Option, Some, slice_get, MatchOption, ◌⊎◌}
 use Rattle.up_diagram.specs.declared.cube.Cube.{Cube}
 use Rattle.up_diagram.specs.Covers.{Covers}
 use Rattle.up_diagram.specs.Cubes.{HasPlaces}

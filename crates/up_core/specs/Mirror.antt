@@ -98,7 +98,7 @@ pub record IsMirror (sys : System) (history : List Event) (m : Machine) (s : Sta
   pub clauses : Pairs m.clauses s.clauses.items (λ k c e. IsClauseOf history sys m k c e)
   pub obligations : Pairs m.obligations s.obligations.items (λ k o e. IsObligationOf history o e)
   pub jobs : Pairs m.jobs s.jobs.items (λ k h e. IsJobOf h e)
-  pub frontier : m.frontier ≡ s.frontier
+  pub frontier : m.frontier ≡ s.clauses.frontier
   pub secure : m.secure ≡ s.secure
   pub calm : m.calm ≡ s.calm
   pub productive : m.productive ≡ s.productive

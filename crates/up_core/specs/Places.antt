@@ -1,5 +1,5 @@
 -- The places of a list whose elements pass a test, in order.
-use Rattle.std.specs.Prelude.{ℕ, suc, Bool, cond, List, [], ◌∷◌}
+use Rattle.std.specs.Prelude.{ℕ, suc, Bool, cond, ◌&&◌, nat_eq, nat_le, is_none, List, [], ◌∷◌}
 use Rattle.up_core.specs.declared.state.ClauseEntry.{ClauseEntry}
 
 module _ {X : Type 0} (test : X → Bool) where
@@ -18,7 +18,22 @@ is_live e = e.live
 abbrev pub live_of : List ClauseEntry → List ℕ
 live_of entries = places_of is_live entries
 
--- what contracts see of the clauses: their entries, and for how many more there is room
+-- a live clause of exactly this level
+abbrev pub has_level : ℕ → ClauseEntry → Bool
+has_level i e = e.live && nat_eq e.level i
+
+-- a live clause of level 1 to the frontier without a valid failed push
+abbrev pub may_rise : ℕ → ClauseEntry → Bool
+may_rise frontier e =
+    e.live && nat_le 1 e.level && nat_le e.level frontier && is_none e.failed
+
+-- the numbers of such clauses
+abbrev pub due_of : ℕ → List ClauseEntry → List ℕ
+due_of frontier entries = places_of (may_rise frontier) entries
+
+-- What contracts see of the clauses: their entries, the last frame, and for how many more clauses or
+-- frames there is room.
 pub record ClausesView : Type 0 where
   pub items : List ClauseEntry
+  pub frontier : ℕ
   pub room : ℕ

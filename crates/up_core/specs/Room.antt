@@ -1,5 +1,5 @@
 -- Room for entries, of which event calls take no further memory.
-use Rattle.std.specs.Prelude.{◌≡◌, ℕ, ◌+◌, ◌≤◌, length, sum, Option, None, Some, ⊤}
+use Rattle.std.specs.Prelude.{◌≡◌, ℕ, ◌≤◌, length, sum, Option, None, Some, ⊤}
 use Rattle.fo_core.specs.declared.world.World.{World}
 use Rattle.up_machine.specs.declared.event.Event.{Event}
 use Rattle.up_machine.specs.declared.event.Event.TheVariants as E
@@ -20,7 +20,7 @@ pub record HaveSameLists (s t : State) : Type 0 where
   pub clauses : t.clauses.items ≡ s.clauses.items
   pub obligations : t.obligations.items ≡ s.obligations.items
   pub jobs : t.jobs.items ≡ s.jobs.items
-  pub frontier : t.frontier ≡ s.frontier
+  pub frontier : t.clauses.frontier ≡ s.clauses.frontier
   pub secure : t.secure ≡ s.secure
   pub calm : t.calm ≡ s.calm
   pub productive : t.productive ≡ s.productive

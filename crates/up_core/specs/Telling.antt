@@ -95,16 +95,16 @@ module _ (history : List Event) where
 
   -- each level from 1 to the frontier has a leave
   abbrev pub CanTellLeaves : State → Type 0
-  CanTellLeaves s = (k : ℕ) → k < s.frontier → HasLeave (mark_of (k + 1) 0 s.clauses.items)
+  CanTellLeaves s = (k : ℕ) → k < s.clauses.frontier → HasLeave (mark_of (k + 1) 0 s.clauses.items)
 
   -- and these are they
   pub record AreLeavesBy (s : State) (leaves : List Leave) : Type 0 where
-    pub one_each : length leaves ≡ s.frontier
+    pub one_each : length leaves ≡ s.clauses.frontier
     pub each : (k : ℕ) (leave : Leave) → slice_get leaves k ≡ Some leave →
         IsLeaveBy (k + 1) (mark_of (k + 1) 0 s.clauses.items) leave
 
   pub record AreBoundsBy (s : State) (last : ℕ) (clauses : List Kept) (leaves : List Leave) : Type 0 where
-    pub last_is : last ≡ s.frontier
+    pub last_is : last ≡ s.clauses.frontier
     pub clauses_are : clauses ≡ told_clauses history 0 s.clauses.items
     pub leaves_are : AreLeavesBy s leaves
 
@@ -197,9 +197,9 @@ module _ (sig : Sig) (history : List Event) where
     pub root : World
     pub root_is : root_in history s.obligations.items number ≡ Some root
     pub copies : 1 ≤ length root.copies
-    pub narrow : s.frontier + 1 < 2 ^ 32
-    pub first : CanLinkAt sig history s.obligations.items (s.frontier + 1) (alone root 0) number
-    pub more : CanGoOn sig history s.obligations.items (s.frontier + 1)
+    pub narrow : s.clauses.frontier + 1 < 2 ^ 32
+    pub first : CanLinkAt sig history s.obligations.items (s.clauses.frontier + 1) (alone root 0) number
+    pub more : CanGoOn sig history s.obligations.items (s.clauses.frontier + 1)
 
   -- the links of that obligation
   pub record AreLinksOf (s : State) (w : ℕ) (links : List Link) : Type 0 where

@@ -149,7 +149,7 @@ fn brief_look(
     requires { AreDescribable sig.now history.now state.now.obligations.items }
     ensures { IfOk result (λ brief. brief ≡ look_brief sig.now history.now state.now) }
 {
-    let level = state.frontier;
+    let level = state.clauses.frontier();
     let obligations = state.obligations.as_slice();
     Ok(Brief {
         job: Job::Look,
@@ -269,7 +269,7 @@ fn brief_for(
         Job::Work(k) => work_now(alloc, history, clauses, obligations, k),
         Job::Look => Ok(Some(brief_look(alloc, sig, history, state)?)),
         Job::Push(k) => push_now(alloc, history, clauses, k),
-        Job::Trace(k) => Ok(trace_now(alloc, state.frontier, obligations, k)),
+        Job::Trace(k) => Ok(trace_now(alloc, state.clauses.frontier(), obligations, k)),
     }
 }
 

@@ -66,17 +66,17 @@ impl State {
         ensures state { let s = self.old in IsState self.new
             s.clauses.items
             (s.obligations.items ++ record {
-              level = s.frontier;
+              level = s.clauses.frontier;
               found = found;
               parent = None;
               progress = Ready;
             } ∷ [])
             (others_of worker s.jobs.items)
-            s.frontier s.secure s.calm (s.productive + 1) s.ended }
+            s.clauses.frontier s.secure s.calm (s.productive + 1) s.ended }
         ensures room { (n : ℕ) → HasSpare (n + 1) self.old → HasSpare n self.new }
     {
         self.obligations.push_reserved(ObligationEntry {
-            level: self.frontier,
+            level: self.clauses.frontier(),
             found,
             parent: None,
             progress: Progress::Ready,
@@ -93,7 +93,7 @@ impl State {
             (change_where (work_in worker s.jobs.items) (with_progress (Rooted found))
             s.obligations.items)
             (others_of worker s.jobs.items)
-            s.frontier s.secure s.calm (s.productive + 1) s.ended }
+            s.clauses.frontier s.secure s.calm (s.productive + 1) s.ended }
         ensures room { (n : ℕ) → HasSpare n self.old → HasSpare n self.new }
     {
         let work = work_of(self.jobs.as_slice(), worker);
@@ -113,7 +113,7 @@ impl State {
             (change_where work (with_progress Waiting) s.obligations.items
             ++ option_to_list (entry_before s.obligations.items work found))
             (others_of worker s.jobs.items)
-            s.frontier s.secure s.calm (s.productive + 1) s.ended }
+            s.clauses.frontier s.secure s.calm (s.productive + 1) s.ended }
         ensures room { (n : ℕ) → HasSpare (n + 1) self.old → HasSpare n self.new }
     {
         let work = work_of(self.jobs.as_slice(), worker);
@@ -144,7 +144,7 @@ impl State {
         ensures state { let s = self.old in IsState self.new
             (change_where (push_in worker s.jobs.items) (failed_entry found) s.clauses.items)
             s.obligations.items (others_of worker s.jobs.items)
-            s.frontier s.secure s.calm (s.productive + 1) s.ended }
+            s.clauses.frontier s.secure s.calm (s.productive + 1) s.ended }
         ensures room { (n : ℕ) → HasSpare n self.old → HasSpare n self.new }
     {
         let push = push_of(self.jobs.as_slice(), worker);
@@ -158,7 +158,7 @@ impl State {
         ensures state { let s = self.old in IsState self.new
             (change_at gone gone_entry s.clauses.items)
             s.obligations.items s.jobs.items
-            s.frontier s.secure s.calm s.productive s.ended }
+            s.clauses.frontier s.secure s.calm s.productive s.ended }
         ensures room { (n : ℕ) → HasSpare n self.old → HasSpare n self.new }
     {
         self.clauses.retire(gone);

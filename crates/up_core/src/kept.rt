@@ -117,7 +117,7 @@ impl Core {
             order: order.copy(alloc)?,
             limits,
             history: Vec::new(alloc),
-            state: State::new(alloc),
+            state: State::new(alloc)?,
             spare: 0,
             picks: Picks::new(alloc, 0)?,
             variables: 0,
@@ -165,7 +165,7 @@ impl Core {
     {
         Numbers {
             productive: self.state.productive as u64,
-            frontier: self.state.frontier as u64,
+            frontier: self.state.clauses.frontier() as u64,
             clauses: self.state.clauses.len() as u64,
         }
     }

@@ -28,6 +28,7 @@ fn lapse_above(
     requires { CanRise history.now sig.now picks.old clauses.old.items entry.now }
     ensures lapsed { AreLapsedAbove history.now sig.now clauses.old.items clauses.new.items
         entry.now }
+    ensures frontier { clauses.new.frontier ≡ clauses.old.frontier }
     ensures room { clauses.new.room ≡ clauses.old.room }
     ensures picks { picks.new ≡ picks.old }
 {
@@ -56,6 +57,7 @@ fn rise(
     requires { CanRise history.now sig.now picks.old clauses.old.items entry.now }
     ensures raised { IsRaised history.now sig.now place clauses.old.items clauses.new.items
         entry.now }
+    ensures frontier { clauses.new.frontier ≡ clauses.old.frontier }
     ensures room { clauses.new.room ≡ clauses.old.room }
     ensures picks { picks.new ≡ picks.old }
 {
@@ -75,7 +77,7 @@ impl State {
             self.new.clauses.items e }
         ensures state { let s = self.old in IsState self.new
             self.new.clauses.items s.obligations.items s.jobs.items
-            s.frontier s.secure s.calm s.productive s.ended }
+            s.clauses.frontier s.secure s.calm s.productive s.ended }
         ensures room { (n : ℕ) → HasSpare n self.old → HasSpare n self.new }
         ensures picks { picks.new ≡ picks.old }
     {
@@ -98,7 +100,7 @@ impl State {
             self.new.clauses.items e }
         ensures state { let s = self.old in IsState self.new
             self.new.clauses.items s.obligations.items (others_of worker s.jobs.items)
-            s.frontier s.secure s.calm (s.productive + 1) s.ended }
+            s.clauses.frontier s.secure s.calm (s.productive + 1) s.ended }
         ensures room { (n : ℕ) → HasSpare n self.old → HasSpare n self.new }
         ensures picks { picks.new ≡ picks.old }
     {
@@ -122,7 +124,7 @@ impl State {
             self.new.clauses.items
             (finished (work_in worker s.jobs.items) s.obligations.items)
             (others_of worker s.jobs.items)
-            s.frontier s.secure s.calm (s.productive + 1) s.ended }
+            s.clauses.frontier s.secure s.calm (s.productive + 1) s.ended }
         ensures room { (n : ℕ) → HasSpare (n + 1) self.old → HasSpare n self.new }
         ensures picks { picks.new ≡ picks.old }
     {

@@ -6,6 +6,7 @@ ghost use Rattle.std.specs.Option.{option_or};
 ghost use Rattle.up_core.specs.Mirror.{Pairs};
 ghost use Rattle.up_core.specs.Telling.{AreLeavesBy, AreMarks, CanTellLeaves, HasLeave, IsLeaveBy, next_place as place_after, own_mark, step_at};
 
+use crate::clauses::entry_at;
 use crate::refuting::world_at;
 use crate::state::{ClauseEntry, State};
 use fo_core::{Seq, World};
@@ -49,14 +50,6 @@ fn next_place(place: u32, entry: &ClauseEntry) -> u32
     ensures { result ≡ place_after place entry.now }
 {
     if entry.live { place + 1 } else { place }
-}
-
-/// The entry of a clause.
-fn entry_at(clauses: &[ClauseEntry], k: usize) -> ClauseEntry
-    requires { k < length clauses.now }
-    ensures { slice_get clauses.now k ≡ Some result }
-{
-    clauses[k]
 }
 
 /// Marks the first live clause of each level.
@@ -149,6 +142,6 @@ pub(crate) fn leaves_of(
     requires each { CanTellLeaves history.now state.now }
     ensures { IfOk result (λ leaves. AreLeavesBy history.now state.now leaves) }
 {
-    let marks = marks_of(alloc, state.frontier, state.clauses.entries())?;
+    let marks = marks_of(alloc, state.clauses.frontier(), state.clauses.entries())?;
     leaves_by(alloc, history, marks.as_slice())
 }

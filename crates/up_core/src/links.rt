@@ -163,7 +163,7 @@ pub(crate) fn links_of(
         Some(k) => match root_of(history, obligations, k as usize) {
             Some(root) => {
                 let start = root.alone(alloc, 0)?;
-                let top = state.frontier + 1;
+                let top = state.clauses.frontier() + 1;
                 links_from(alloc, sig, history, obligations, top, k as usize, &start)
             }
             None => unreachable!(),

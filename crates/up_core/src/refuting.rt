@@ -139,12 +139,19 @@ pub(crate) fn seed_refuter(
     picks: &mut Picks,
 ) -> Option<usize>
     requires { AreTriable history.now sig.now w.now picks.old state.now.clauses.items }
-    ensures first { IsFirstMet history.now sig.now w.now state.now.frontier
+    ensures first { IsFirstMet history.now sig.now w.now state.now.clauses.frontier
         state.now.clauses.items result }
     ensures within { IfSome result (λ k. k < length state.now.clauses.items) }
     ensures room { picks.new ≡ picks.old }
 {
-    first_refuter(history, &state.clauses, sig, w, state.frontier, picks)
+    first_refuter(
+        history,
+        &state.clauses,
+        sig,
+        w,
+        state.clauses.frontier(),
+        picks,
+    )
 }
 
 /// The first clause that refutes a step before the obligation that the worker works on, in the

@@ -1,7 +1,7 @@
 //! What the code keeps of the machine's state: numbers alone. Worlds and cubes stand in the
 //! history, and these numbers say where.
 
-ghost use Rattle.std.specs.Prelude.{ℕ, [], OnOk};
+ghost use Rattle.std.specs.Prelude.{ℕ, [], IfOk, OnOk};
 ghost use Rattle.fo_core.specs.declared.system.System.{System};
 ghost use Rattle.up_machine.specs.Machine.{start};
 ghost use Rattle.up_core.specs.Mirror.{IsMirror};
@@ -65,8 +65,6 @@ pub(crate) struct State {
     pub clauses: Clauses,
     pub obligations: Vec<ObligationEntry>,
     pub jobs: Vec<JobEntry>,
-    /// The last frame.
-    pub frontier: u32,
     /// The last frame of which no state violates a safety, as far as is known.
     pub secure: u32,
     /// How many seed obligations were done when a look last found no further violating state.
@@ -79,20 +77,19 @@ pub(crate) struct State {
 
 impl State {
     /// The state before any event.
-    pub fn new(alloc: Global) -> State
-        ensures mirror { (sys : System) → IsMirror sys [] start result }
-        ensures room { HasSpare 0 result }
+    pub fn new(alloc: Global) -> Result<State, AllocError>
+        ensures mirror { (sys : System) → IfOk result (IsMirror sys [] start) }
+        ensures room { IfOk result (HasSpare 0) }
     {
-        State {
-            clauses: Clauses::new(alloc),
+        Ok(State {
+            clauses: Clauses::new(alloc)?,
             obligations: Vec::new(alloc),
             jobs: Vec::new(alloc),
-            frontier: 1,
             secure: 0,
             calm: None,
             productive: 0,
             ended: false,
-        }
+        })
     }
 
     /// Makes room for this many further clauses, obligations and jobs. Where memory is refused only

@@ -49,7 +49,7 @@ impl State {
               job = job;
               done = count_by is_done_seed s.obligations.items;
             } ∷ [])
-            s.frontier s.secure s.calm s.productive s.ended }
+            s.clauses.frontier s.secure s.calm s.productive s.ended }
         ensures room { (n : ℕ) → HasSpare (n + 1) self.old → HasSpare n self.new }
     {
         let done = done_seeds(self.obligations.as_slice()) as u32;
@@ -59,14 +59,15 @@ impl State {
 
     /// The next frame is opened.
     pub(crate) fn advance(&mut self)
-        requires frontier { self.old.frontier + 1 < 2 ^ 32 }
+        requires frontier { self.old.clauses.frontier + 1 < 2 ^ 32 }
         requires productive { self.old.productive + 1 < 2 ^ 32 }
+        requires room { HasSpare 1 self.old }
         ensures state { let s = self.old in IsState self.new
             s.clauses.items s.obligations.items s.jobs.items
-            (s.frontier + 1) s.secure None (s.productive + 1) s.ended }
-        ensures room { (n : ℕ) → HasSpare n self.old → HasSpare n self.new }
+            (s.clauses.frontier + 1) s.secure None (s.productive + 1) s.ended }
+        ensures room { (n : ℕ) → HasSpare (n + 1) self.old → HasSpare n self.new }
     {
-        self.frontier += 1;
+        self.clauses.advance();
         self.calm = None;
         self.productive += 1;
     }
@@ -75,7 +76,7 @@ impl State {
     pub(crate) fn finish(&mut self)
         ensures state { let s = self.old in IsState self.new
             s.clauses.items s.obligations.items s.jobs.items
-            s.frontier s.secure s.calm s.productive true }
+            s.clauses.frontier s.secure s.calm s.productive true }
         ensures room { (n : ℕ) → HasSpare n self.old → HasSpare n self.new }
     {
         self.ended = true;
@@ -85,7 +86,7 @@ impl State {
     pub(crate) fn close(&mut self, worker: u32)
         ensures state { let s = self.old in IsState self.new
             s.clauses.items s.obligations.items (others_of worker s.jobs.items)
-            s.frontier s.secure s.calm s.productive true }
+            s.clauses.frontier s.secure s.calm s.productive true }
         ensures room { (n : ℕ) → HasSpare n self.old → HasSpare n self.new }
     {
         release(&mut self.jobs, worker);
@@ -97,11 +98,11 @@ impl State {
         requires { self.old.productive + 1 < 2 ^ 32 }
         ensures state { let s = self.old in IsState self.new
             s.clauses.items s.obligations.items (others_of worker s.jobs.items)
-            s.frontier s.frontier s.calm (s.productive + 1) s.ended }
+            s.clauses.frontier s.clauses.frontier s.calm (s.productive + 1) s.ended }
         ensures room { (n : ℕ) → HasSpare n self.old → HasSpare n self.new }
     {
         release(&mut self.jobs, worker);
-        self.secure = self.frontier;
+        self.secure = self.clauses.frontier();
         self.productive += 1;
     }
 
@@ -112,7 +113,7 @@ impl State {
             s.clauses.items
             (finished (work_in worker s.jobs.items) s.obligations.items)
             (others_of worker s.jobs.items)
-            s.frontier s.secure s.calm (s.productive + 1) s.ended }
+            s.clauses.frontier s.secure s.calm (s.productive + 1) s.ended }
         ensures room { (n : ℕ) → HasSpare n self.old → HasSpare n self.new }
     {
         let work = work_of(self.jobs.as_slice(), worker);
@@ -127,7 +128,7 @@ impl State {
             s.clauses.items
             (change_where (work_in worker s.jobs.items) (with_progress Ready) s.obligations.items)
             (others_of worker s.jobs.items)
-            s.frontier s.secure (calm_of why.now worker s.jobs.items s.calm)
+            s.clauses.frontier s.secure (calm_of why.now worker s.jobs.items s.calm)
             s.productive s.ended }
         ensures room { (n : ℕ) → HasSpare n self.old → HasSpare n self.new }
     {

@@ -7,27 +7,20 @@ ghost use Rattle.fo_core.specs.declared.system.System.{System};
 ghost use Rattle.up_machine.specs.declared.event.Event.{Event};
 ghost use Rattle.up_machine.specs.Due.{by_end, by_closed_level, by_root, by_steps, by_obligation, by_frontier, by_clause, by_quiet, IsDue, IsFirst, IsQuiet};
 ghost use Rattle.up_machine.specs.Machine.{Machine};
-ghost use Rattle.up_core.specs.Choice.{IsBest, IsBestPlace, IsChoice, IsClosedAt, IsFirstPlace, IsLaterDue, IsSmall, has_job, has_level, is_done as done_of, is_done_seed, is_look, is_open_seed, is_push_of, is_ready as ready_of, is_rooted as rooted_of, is_to_push, is_trace, may_rise};
+ghost use Rattle.up_core.specs.Choice.{IsBest, IsBestPlace, IsChoice, IsClosedAt, IsFirstPlace, IsLaterDue, IsSmall, has_job, is_done as done_of, is_done_seed, is_look, is_open_seed, is_push_of, is_ready as ready_of, is_rooted as rooted_of, is_to_push, is_trace};
 ghost use Rattle.up_core.specs.Mirror.{IsMirror};
 
-use crate::state::{ClauseEntry, JobEntry, ObligationEntry, Progress, State};
+use crate::clauses::Clauses;
+use crate::state::{JobEntry, ObligationEntry, Progress, State};
 use up_machine::{Job, Limits, MOST_SEEDS, Short, Task};
 
-/// Whether some live clause has exactly this level.
-fn is_level(clauses: &[ClauseEntry], level: u32) -> bool
-    ensures { result ≡ list_any (has_level level) clauses.now }
-{
-    clauses
-        .iter()
-        .any(|entry| entry.live && entry.level == level)
-}
-
 /// The least level from 1 to the secure one that no live clause has.
-fn closed_level(clauses: &[ClauseEntry], secure: u32) -> Option<u32>
-    ensures { IsClosedAt clauses.now secure result }
+fn closed_level(clauses: &Clauses, secure: u32) -> Option<u32>
+    requires { secure ≤ clauses.now.frontier }
+    ensures { IsClosedAt clauses.now.items secure result }
 {
     'each: for below in 0..secure {
-        if !is_level(clauses, below + 1) {
+        if !clauses.has_level(below + 1) {
             return Some(below + 1);
         }
     }
@@ -165,19 +158,14 @@ fn has_open(obligations: &[ObligationEntry]) -> bool
     obligations.iter().any(|entry| !is_done(entry.progress))
 }
 
-fn can_rise(entry: &ClauseEntry, frontier: u32) -> bool
-    ensures { result ≡ may_rise frontier entry.now }
-{
-    entry.live && 1 <= entry.level && entry.level <= frontier && entry.failed.is_none()
-}
-
 /// The first clause that is to be pushed.
-fn next_push(clauses: &[ClauseEntry], jobs: &[JobEntry], frontier: u32) -> Option<usize>
-    ensures { IsFirstPlace clauses.now (is_to_push frontier jobs.now) result }
+fn next_push(clauses: &Clauses, jobs: &[JobEntry]) -> Option<usize>
+    ensures { IsFirstPlace clauses.now.items (is_to_push clauses.now.frontier jobs.now) result }
 {
-    'each: for (k, entry) in clauses.iter().enumerate() {
-        if can_rise(entry, frontier) && !push_is_out(jobs, k) {
-            return Some(k);
+    let due = clauses.due();
+    'each: for k in due {
+        if !push_is_out(jobs, *k) {
+            return Some(*k);
         }
     }
     None
@@ -194,10 +182,11 @@ impl State {
 
     /// Frames that are a fixed point end the run.
     fn closed_task(&self) -> Option<Task>
+        requires { self.now.secure ≤ self.now.clauses.frontier }
         ensures { (sys : System) (limits : Limits) (history : List Event) (m : Machine) →
             IsMirror sys history m self.now → IsChoice (by_closed_level sys limits m) result }
     {
-        match closed_level(self.clauses.entries(), self.secure) {
+        match closed_level(&self.clauses, self.secure) {
             Some(level) => Some(Task::Finish(Short::Safe(level))),
             None => None,
         }
@@ -262,7 +251,7 @@ impl State {
         ensures { (sys : System) (limits : Limits) (history : List Event) (m : Machine) →
             IsMirror sys history m self.now → IsChoice (by_frontier sys limits m) result }
     {
-        if self.secure >= self.frontier {
+        if self.secure >= self.clauses.frontier() {
             return None;
         }
         if look_is_out(self.jobs.as_slice()) {
@@ -283,8 +272,7 @@ impl State {
         ensures { (sys : System) (limits : Limits) (history : List Event) (m : Machine) →
             IsMirror sys history m self.now → IsChoice (by_clause sys limits m) result }
     {
-        let clauses = self.clauses.entries();
-        match next_push(clauses, self.jobs.as_slice(), self.frontier) {
+        match next_push(&self.clauses, self.jobs.as_slice()) {
             Some(k) => Some(Task::Job(Job::Push(k as u32))),
             None => None,
         }
@@ -295,7 +283,7 @@ impl State {
         ensures { (sys : System) (history : List Event) (m : Machine) →
             IsMirror sys history m self.now → (IsTrue result ↔ IsQuiet m) }
     {
-        if self.secure != self.frontier {
+        if self.secure != self.clauses.frontier() {
             return false;
         }
         if has_open(self.obligations.as_slice()) {
@@ -312,7 +300,7 @@ impl State {
         if !self.is_quiet() {
             return None;
         }
-        if self.frontier < limits.frames {
+        if self.clauses.frontier() < limits.frames {
             Some(Task::Advance)
         } else {
             Some(Task::Finish(Short::Bounded))

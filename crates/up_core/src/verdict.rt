@@ -67,7 +67,7 @@ fn told_bounded(alloc: Global, history: &[Event], state: &State) -> Result<Verdi
 {
     let leaves = leaves_of(alloc, history, state)?;
     let clauses = told_clauses(alloc, history, 0, &state.clauses)?;
-    Ok(Verdict::Bounded(state.frontier, clauses, leaves))
+    Ok(Verdict::Bounded(state.clauses.frontier(), clauses, leaves))
 }
 
 /// What the worker's end of a run tells.

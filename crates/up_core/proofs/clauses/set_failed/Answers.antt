@@ -1,4 +1,4 @@
-use Rattle.std.proofs.Common.{◌≤◌, None, false, length, get_or, arith, ◌∙◌}
+use Rattle.std.proofs.Common.{◌≤◌, None, false, length, get_or, arith}
 use Rattle.std.proofs.lemmas.Option.{slice_get-get_or}
 use Rattle.up_core.specs.declared.state.ClauseEntry.{ClauseEntry}
 use Rattle.up_core.specs.Steps.{failed_entry}

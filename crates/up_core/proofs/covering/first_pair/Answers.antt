@@ -1,4 +1,4 @@
-use Rattle.std.proofs.Common.{None, Some, subst, arith, ◌∙◌}
+use Rattle.std.proofs.Common.{subst, arith, ◌∙◌}
 use Rattle.up_machine.proofs.Lists.{get-lt}
 use Rattle.up_core.specs.Covering.{IsFirstBy}
 use Rattle.up_core.specs.Places.{is_live}

@@ -1,4 +1,4 @@
-use Rattle.std.proofs.Common.{Some, sym, ap, subst, ◌∙◌}
+use Rattle.std.proofs.Common.{ap, subst, ◌∙◌}
 use Rattle.up_machine.proofs.Lists.{some_injective}
 use Rattle.up_core.specs.declared.state.ClauseEntry.{ClauseEntry}
 use Rattle.up_core.specs.Refuting.{IsFirstMet, pushed_in}

@@ -1,4 +1,4 @@
-use Rattle.std.proofs.Common.{◌≡◌, ◌<◌, ◌≤◌, ◌+◌, length, arith, sym, subst, ◌∙◌}
+use Rattle.std.proofs.Common.{◌+◌, arith, sym, subst, ◌∙◌}
 use Rattle.up_core.specs.Choice.{IsBest}
 use Rattle.up_core.proofs.Chosen.{best-new, best-old}
 use Rattle.up_core.proofs.tasks.lowest_ready.Goals as goal

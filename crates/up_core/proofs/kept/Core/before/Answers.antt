@@ -1,9 +1,7 @@
-use Rattle.std.proofs.Common.{◌≡◌, ◌≤◌, ◌<◌, ◌+◌, max, sum, length, sym, subst, ap, ◌∙◌, arith}
+use Rattle.std.proofs.Common.{length, sym, subst, ap, ◌∙◌, arith}
 use Rattle.up_machine.specs.declared.event.Event.TheVariants as E
 use Rattle.up_core.specs.Known.{IsKnown, IsNow}
-use Rattle.up_core.specs.View.{CoreView, elements_in}
-use Rattle.up_core.specs.Becoming.{IsState, IsPreceded}
-use Rattle.up_core.proofs.EventCores.{spare-less}
+use Rattle.up_core.specs.View.{CoreView}
 use Rattle.up_core.proofs.NextCores.{small-of}
 use Rattle.up_core.proofs.WorldCores.{ok-of, before-core-at}
 use Rattle.up_core.proofs.kept.Core.before.Goals as goal

@@ -1,4 +1,4 @@
-use Rattle.std.proofs.Common.{ℕ, ◌<◌, ◌^◌, Some, length, sym, subst}
+use Rattle.std.proofs.Common.{ℕ, sym, subst}
 use Rattle.std.specs.Prelude.{MatchOption}
 use Rattle.up_machine.specs.Rounds.{IsFirstCover}
 use Rattle.up_machine.proofs.Fit.{history_fit}

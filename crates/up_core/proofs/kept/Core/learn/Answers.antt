@@ -1,4 +1,4 @@
-use Rattle.std.proofs.Common.{◌≡◌, ◌≤◌, ◌-◌, length, refl, rules, sym, subst, ap, ◌∙◌, arith}
+use Rattle.std.proofs.Common.{◌-◌, length, refl, sym, subst, ap, ◌∙◌}
 use Rattle.up_machine.specs.declared.event.Event.TheVariants as E
 use Rattle.up_core.specs.Holding.{IsCore}
 use Rattle.up_core.specs.Known.{IsKnown, IsNow}

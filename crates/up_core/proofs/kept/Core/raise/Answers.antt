@@ -1,6 +1,5 @@
-use Rattle.std.proofs.Common.{◌≡◌, ◌-◌, Some, sym, subst, ap, ◌∙◌}
+use Rattle.std.proofs.Common.{◌-◌, sym, subst}
 use Rattle.up_machine.specs.declared.event.Event.TheVariants as E
-use Rattle.up_core.specs.declared.state.ClauseEntry.{ClauseEntry}
 use Rattle.up_core.specs.Holding.{IsCore}
 use Rattle.up_core.specs.Known.{IsKnown}
 use Rattle.up_core.specs.Lapsing.{CanRise, IsRaised}

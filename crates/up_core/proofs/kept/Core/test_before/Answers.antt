@@ -1,15 +1,12 @@
-use Rattle.std.proofs.Common.{◌≡◌, None, Some, rules, sym, subst, ap, ◌∙◌}
-use Rattle.fo_core.specs.declared.world.World.{World}
+use Rattle.std.proofs.Common.{None, Some, rules, sym, subst}
 use Rattle.up_machine.specs.declared.event.Event.TheVariants as E
-use Rattle.up_machine.specs.declared.event.Origin.{Origin}
-use Rattle.up_machine.specs.declared.event.Origin.TheVariants as O
 use Rattle.up_machine.specs.declared.not_now.NotNow.TheVariants as W
 use Rattle.up_core.specs.Known.{IsKnown, IsNow, IsNotNow}
 use Rattle.up_core.specs.Refuting.{AreTriable, AreTriableForOwn, IsFirstOwn, IsFirstBelow}
 use Rattle.up_core.specs.View.{CoreView}
 use Rattle.up_core.proofs.EventCores.{open-for}
 use Rattle.up_core.proofs.NextCores.{small-of}
-use Rattle.up_core.proofs.Tried.{known-work, own-tries, own-inside, own-refuted, step-tries, step-known, before-refuted, before-step, before-initial, none-left}
+use Rattle.up_core.proofs.Tried.{known-work, own-tries, own-refuted, step-tries, step-known, before-refuted, before-step, before-initial, none-left}
 use Rattle.up_core.proofs.kept.Core.test_before.Goals as goal
 
 pub own_refuter-own-requires : goal.own_refuter-own-requires

@@ -1,8 +1,8 @@
-use Rattle.std.proofs.Common.{◌≡◌, ◌<◌, ◌^◌, None, Some, rules, sym, subst, arith}
+use Rattle.std.proofs.Common.{None, Some, rules, sym, subst}
 use Rattle.up_machine.specs.declared.event.Event.TheVariants as E
 use Rattle.up_machine.specs.declared.not_now.NotNow.TheVariants as W
 use Rattle.up_core.specs.Known.{IsKnown, IsNow, IsNotNow}
-use Rattle.up_core.specs.Refuting.{AreTriable, AreTriableForOwn, IsFirstMet, IsFirstOwn, IsFirstBelow, IsFirstPushed}
+use Rattle.up_core.specs.Refuting.{AreTriable, IsFirstPushed}
 use Rattle.up_core.specs.View.{CoreView}
 use Rattle.up_core.proofs.EventCores.{open-for}
 use Rattle.up_core.proofs.NextCores.{small-of}

@@ -1,5 +1,4 @@
-use Rattle.std.proofs.Common.{◌≡◌, None, Some, rules, sym, subst, ap, ◌∙◌}
-use Rattle.up_diagram.specs.declared.cube.Cube.{Cube}
+use Rattle.std.proofs.Common.{None, Some, rules, sym, subst}
 use Rattle.up_machine.specs.declared.event.Event.TheVariants as E
 use Rattle.up_machine.specs.declared.not_now.NotNow.TheVariants as W
 use Rattle.up_machine.specs.Finding.{HoldsWork}

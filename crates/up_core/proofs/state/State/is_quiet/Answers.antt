@@ -1,4 +1,4 @@
-use Rattle.std.proofs.Common.{◌≡◌, Bool, true, false, not, nat_eq, length, List, sym, ◌∙◌, ap}
+use Rattle.std.proofs.Common.{Bool, not, nat_eq, length, List, sym, ◌∙◌, ap}
 use Rattle.std.specs.List.{list_any}
 use Rattle.up_core.specs.declared.state.JobEntry.{JobEntry}
 use Rattle.up_core.specs.declared.state.ObligationEntry.{ObligationEntry}
@@ -18,6 +18,6 @@ returns-then-has_open c sys history m mirror = (
 
 pub returns : goal.returns
 returns c sys history m mirror =
-    quiet-by-jobs sys history m c.args.self.now mirror c.if-self.false
+    quiet-by-jobs sys history m c.args.self.now mirror (c.if-self-frontier.false ∙ c.frontier.ensures)
     (sym (ap (list_any is_open) c.as_slice.ensures.value) ∙ sym c.has_open.ensures ∙ c.if-has_open.false)
     c.is_empty.result (c.is_empty.ensures ∙ ap (λ (js : List JobEntry). nat_eq (length js) 0) c.as_slice-2.ensures.value)

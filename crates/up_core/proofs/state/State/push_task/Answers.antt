@@ -7,12 +7,10 @@ pub returns-in-Some : goal.returns-in-Some
 returns-in-Some c sys limits history m mirror =
     let s = c.args.self.now in
     push-some sys limits history m s mirror c.in-Some.k
-    (subst (λ js. IsFirstPlace s.clauses.items (is_to_push s.frontier js) (Some c.in-Some.k)) c.as_slice.ensures.value
-    (subst (λ xs. IsFirstPlace xs (is_to_push s.frontier c.as_slice.result.now) (Some c.in-Some.k)) c.entries-clauses.ensures c.in-Some.ensures))
+    (subst (λ js. IsFirstPlace s.clauses.items (is_to_push s.clauses.frontier js) (Some c.in-Some.k)) c.as_slice.ensures.value c.in-Some.ensures)
 
 pub returns-in-None : goal.returns-in-None
 returns-in-None c sys limits history m mirror =
     let s = c.args.self.now in
     push-none sys limits history m s mirror
-    (subst (λ js. IsFirstPlace s.clauses.items (is_to_push s.frontier js) None) c.as_slice.ensures.value
-    (subst (λ xs. IsFirstPlace xs (is_to_push s.frontier c.as_slice.result.now) None) c.entries-clauses.ensures c.in-None.ensures))
+    (subst (λ js. IsFirstPlace s.clauses.items (is_to_push s.clauses.frontier js) None) c.as_slice.ensures.value c.in-None.ensures)

@@ -1,4 +1,4 @@
-use Rattle.std.proofs.Common.{◌+◌, arith}
+use Rattle.std.proofs.Common.{arith}
 use Rattle.up_core.specs.Room.{HasRoom}
 use Rattle.up_core.proofs.state.State.seed.Goals as goal
 
