@@ -16,9 +16,9 @@ use Rattle.fo_core.specs.Sorted.{IsSystem}
 use Rattle.up_claims.specs.Breaking.{Breaks}
 use Rattle.up_claims.specs.Claims.{properties, verify_copies, verify_claims}
 use Rattle.up_claims.specs.Inductive.{IsInductive}
-use Rattle.up_claims.specs.VerifyQueries.{Case, cases_at, step_cases, verify_cases, verify_weight, NeverBreaks}
+use Rattle.up_claims.specs.VerifyQueries.{Case, cases_at, step_cases, verify_cases, verify_query_of, verify_weight, NeverBreaks}
 use Rattle.up_claims.proofs.CaseLemmas.{inductive_by_cases}
-use Rattle.up_verify.specs.Verifying.{IsLightCase, Passes, IsReached, FailsFirst, IsOverFirst, IsVerified, IsVerification, case_of, AreAlike}
+use Rattle.up_verify.specs.Verifying.{IsLightCase, Passes, IsReached, FailsFirst, IsOverFirst, IsShown, IsShownCase, IsVerified, IsVerification, case_of, AreAlike}
 use Rattle.up_verify.specs.Halting.{Finds}
 use Rattle.up_verify.specs.declared.verifying.Halt.{Halt}
 use Rattle.up_verify.specs.declared.verifying.Halt.TheVariants as halt
@@ -91,13 +91,13 @@ module _ (sys : System) (limit : ℕ) where
 
   pub one_answer : IsSystem sys → (a b : Verified) → IsVerification sys limit a → IsVerification sys limit b → AreAlike a b
   one_answer is verified.Inductive verified.Inductive h g = tt
-  one_answer is verified.Inductive (verified.Fails f) h g = verified_or_fails is (case_of f) f.world h g
+  one_answer is verified.Inductive (verified.Fails f) h g = verified_or_fails is (case_of f) f.world h g.0
   one_answer is verified.Inductive (verified.Over n) h g = verified_or_over g.0 h g.1
-  one_answer is (verified.Fails f) verified.Inductive h g = verified_or_fails is (case_of f) f.world g h
-  one_answer is (verified.Fails f) (verified.Fails x) h g = one_failing (case_of f) (case_of x) f.world x.world h g
-  one_answer is (verified.Fails f) (verified.Over n) h g = fails_or_over (verify_cases sys) (case_of f) g.0 f.world h g.1
+  one_answer is (verified.Fails f) verified.Inductive h g = verified_or_fails is (case_of f) f.world g h.0
+  one_answer is (verified.Fails f) (verified.Fails x) h g = one_failing (case_of f) (case_of x) f.world x.world h.0 g.0
+  one_answer is (verified.Fails f) (verified.Over n) h g = fails_or_over (verify_cases sys) (case_of f) g.0 f.world h.0 g.1
   one_answer is (verified.Over m) verified.Inductive h g = verified_or_over h.0 g h.1
-  one_answer is (verified.Over m) (verified.Fails f) h g = fails_or_over (verify_cases sys) (case_of f) h.0 f.world g h.1
+  one_answer is (verified.Over m) (verified.Fails f) h g = fails_or_over (verify_cases sys) (case_of f) h.0 f.world g.0 h.1
   one_answer is (verified.Over m) (verified.Over n) h g = h.2 ∙ ap (verify_weight sys) (one_over h.0 g.0 h.1 g.1) ∙ sym g.2
 
   -- ---- what is found of two lists of cases, the one behind the other
@@ -119,12 +119,12 @@ module _ (sys : System) (limit : ℕ) where
   }
 
   pub finds_left : (xs ys : List Case) (f : Halt) → Finds sys limit xs (Some f) → Finds sys limit (xs ++ ys) (Some f)
-  finds_left xs ys (halt.Fails x) h = record { reached = stops_left xs ys _ h.reached; light = h.light; breaks = h.breaks }
+  finds_left xs ys (halt.Fails x) (h, shown) = (record { reached = stops_left xs ys _ h.reached; light = h.light; breaks = h.breaks }, shown)
   finds_left xs ys (halt.Over weight) (c, h, is) = (c, record { reached = stops_left xs ys c h.reached; heavy = h.heavy }, is)
 
   pub finds_right : (xs ys : List Case) (r : Option Halt) → All (Passes sys limit) xs → Finds sys limit ys r → Finds sys limit (xs ++ ys) r
   finds_right xs ys None all h = All-append (Passes sys limit) xs ys all h
-  finds_right xs ys (Some (halt.Fails x)) all h = record { reached = stops_right xs ys _ all h.reached; light = h.light; breaks = h.breaks }
+  finds_right xs ys (Some (halt.Fails x)) all (h, shown) = (record { reached = stops_right xs ys _ all h.reached; light = h.light; breaks = h.breaks }, shown)
   finds_right xs ys (Some (halt.Over weight)) all (c, h, is) = (c, record { reached = stops_right xs ys c all h.reached; heavy = h.heavy }, is)
 
   -- where those before one pass, what is found of it is found of a list that goes on behind it
@@ -171,6 +171,9 @@ module _ (sys : System) (limit : ℕ) where
 
   -- what is found of one case, by what its query is answered
   module _ (step : Option ℕ) (p : ℕ) (q : Query) (copies : q.copies ≡ verify_copies step) (claims : q.claims ≡ verify_claims sys step p) (meaning : (w : World) → MeetsQuery sys.sig q w ↔ Breaks sys step p w) where
+    query_is : q ≡ verify_query_of sys (record { step = step; property = p })
+    query_is = ap₂ (λ (n : ℕ) (fs : List Formula). record { copies = n; claims = fs }) copies claims
+
     weight_is : query_weight sys.sig q ≡ verify_weight sys (record { step = step; property = p })
     weight_is = ap₂ (λ (n : ℕ) (fs : List Formula). query_weight sys.sig (record { copies = n; claims = fs })) copies claims
 
@@ -181,6 +184,10 @@ module _ (sys : System) (limit : ℕ) where
 
     pub finds_world : (w : World) → IsAnswer sys.sig q limit (found.Model w) → FailsFirst sys limit (record { step = step; property = p } ∷ []) (record { step = step; property = p }) w
     finds_world w (light, meets) = record { reached = stops_here (record { step = step; property = p }); light = subst (λ (n : ℕ). n ≤ limit) weight_is light; breaks = (meaning w).0 meets }
+
+    -- a world that meets the query shows the failure in the words of the case
+    pub finds_shown : (v world : World) → IsAnswer sys.sig q limit (found.Model v) → MeetsQuery sys.sig q world → IsShown sys.sig q limit world → FailsFirst sys limit (record { step = step; property = p } ∷ []) (record { step = step; property = p }) world × IsShownCase sys limit (record { step = step; property = p }) world
+    finds_shown v world (light, _) meets shown = (finds_world world (light, meets), subst (λ (r : Query). IsShown sys.sig r limit world) query_is shown)
 
     pub finds_weight : (n : ℕ) → IsAnswer sys.sig q limit (found.Over n) → Finds sys limit (record { step = step; property = p } ∷ []) (Some (halt.Over n))
     finds_weight n (is, heavy) =

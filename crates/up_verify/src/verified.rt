@@ -5,10 +5,11 @@ use fo_core::World;
 pub struct Failure {
     /// The transition that doesn't keep the property, or none where it fails at the start.
     pub step: Option<u32>,
-    /// The property: a safety or, behind them, an invariant.
+    /// The property: a safety or, after them, an invariant.
     pub property: u32,
     /// One initial state without the property; or a state with all properties, and one without this
-    /// one to which the transition leads.
+    /// one to which the transition leads. It is the least such world, unless a query of the search
+    /// for that is above the finder's limit.
     pub world: World,
 }
 

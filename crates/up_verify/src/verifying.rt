@@ -1,14 +1,17 @@
 ghost use Rattle.std.specs.Prelude.{◌≡◌, ◌<◌, ◌+◌, [], ◌∷◌, length, IfOk, IfSome};
 ghost use Rattle.fo_core.specs.declared.order.Purpose.TheVariants.{Verify};
+ghost use Rattle.fo_core.specs.Finds.{CanSearch};
+ghost use Rattle.fo_core.specs.Queries.{MeetsQuery};
 ghost use Rattle.fo_core.specs.Sorted.{IsSystem};
 ghost use Rattle.fo_core.specs.SortGraph.{SortEdge, Rises};
 ghost use Rattle.up_claims.specs.Claims.{properties};
 ghost use Rattle.up_claims.specs.VerifyQueries.{cases_at, step_cases, verify_cases};
-ghost use Rattle.up_verify.specs.Verifying.{IsVerification};
+ghost use Rattle.up_verify.specs.Verifying.{IsShown, IsVerification};
 ghost use Rattle.up_verify.specs.Halting.{Finds};
 
 use crate::verified::{Failure, Verified};
-use fo_core::{Finder, Found, Order, System};
+use fo_core::{Finder, Found, Order, Query, System, World};
+use fo_min::{Least, least};
 use std::alloc::{AllocError, Global};
 use up_claims::verify_query;
 
@@ -19,6 +22,29 @@ enum Halt {
     Fails(Failure),
     /// The case's query is heavier than the finder's limit: its weight.
     Over(u64),
+}
+
+/// The least world that meets the query, where no query of the search for it is above the finder's
+/// limit; else this one, which meets it.
+fn least_or<F: Finder>(
+    alloc: Global,
+    f: &mut F,
+    sys: &System,
+    order: &Order,
+    query: &Query,
+    world: World,
+) -> Result<World, AllocError>
+    requires search { CanSearch sys.now order.now query.now }
+    requires meets { MeetsQuery sys.now.sig query.now world }
+    ensures limit { F.limit f.new ≡ F.limit f.old }
+    ensures meets { IfOk result (MeetsQuery sys.now.sig query.now) }
+    ensures shown { IfOk result (IsShown sys.now.sig query.now (F.limit f.old)) }
+{
+    match least(alloc, f, sys, order, query)? {
+        Least::Model(first) => Ok(first),
+        Least::Nothing => Ok(world),
+        Least::Over(_) => Ok(world),
+    }
 }
 
 /// Asks whether a property holds at the start, or whether a transition keeps it.
@@ -40,11 +66,14 @@ fn halt_of<F: Finder>(
     let query = verify_query(alloc, sys, step, property)?;
     match f.find(alloc, sys, order, &query)? {
         Found::Nothing => Ok(None),
-        Found::Model(world) => Ok(Some(Halt::Fails(Failure {
-            step,
-            property,
-            world,
-        }))),
+        Found::Model(found) => {
+            let world = least_or(alloc, f, sys, order, &query, found)?;
+            Ok(Some(Halt::Fails(Failure {
+                step,
+                property,
+                world,
+            })))
+        }
         Found::Over(weight) => Ok(Some(Halt::Over(weight))),
     }
 }
@@ -114,8 +143,9 @@ fn first_halt<F: Finder>(
 /// Asks whether the system's safeties and invariants together are inductive, by a query for each
 /// property at the start, and then for each transition and each property; the notion is Aaron
 /// Bradley's and Zohar Manna's ("The Calculus of Computation", 2007). It answers the first case that
-/// fails, with a world that shows it. Where a query up to that one is above the finder's limit, it
-/// answers the weight of the first such query.
+/// fails, with the least world that shows it; with some world that does, where a query of the search
+/// for the least one ([`fo_min::least`]) is above the finder's limit. Where a query up to that case's
+/// own is above the limit, it answers the weight of the first such query.
 ///
 /// It asks for a well-sorted system ([`System::is_well_sorted`]), and for an order that rises along
 /// each edge of the system's sort graph for verification. Where a number of variables doesn't fit 32

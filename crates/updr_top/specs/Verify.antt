@@ -9,7 +9,7 @@ use Rattle.fo_text.specs.Texts.{text_of}
 use Rattle.up_claims.specs.VerifyQueries.{Case, verify_cases, verify_weight}
 use Rattle.pyv_sorts.specs.declared.model.Elaborated.{Elaborated}
 use Rattle.up_core.specs.View.{CoreView}
-use Rattle.up_verify.specs.Verifying.{IsVerified, FailsFirst, IsOverFirst}
+use Rattle.up_verify.specs.Verifying.{IsVerified, FailsFirst, IsOverFirst, IsShownCase}
 use Rattle.up_verify.proofs.Cases.{fails_or_over, verified_or_fails, verified_or_over}
 use Rattle.updr_told.specs.declared.status.Status.TheVariants.{Holds, NotInductive, Over}
 use Rattle.updr_words.specs.Forms.{Form}
@@ -33,7 +33,7 @@ abbrev pub case_words : Names → Option ℕ → ℕ → List ℕ
 case_words names None p = codes "init property " ++ decimal p
 case_words names (Some t) p = codes "step " ++ (step_name names t ++ (codes " property " ++ decimal p))
 
--- that line, and a world that shows it
+-- that line, and the world that shows it
 abbrev pub failing_text : Elaborated → Case → World → List ℕ
 failing_text e c w = codes "not inductive " ++ case_words e.names c.step c.property ++ codes "\n" ++ text_of e.sys.sig e.names w
 
@@ -50,14 +50,15 @@ inductive limit = record {
   says = λ g text left. (text ≡ codes "inductive\n") × (left ≡ None);
 }
 
--- a query has a world and none up to it is above the limit
+-- a query has a world and none up to it is above the limit; it is shown by the least world, but where
+-- the search for that comes to a query above the limit
 abbrev pub failing : ℕ → Row Given CoreView
 failing limit = record {
   status = NotInductive;
   comes = λ g. (c : Case) × (w : World) × FailsFirst g.meant.sys limit (verify_cases g.meant.sys) c w;
   says = λ g text left.
       (c : Case) × (w : World) × FailsFirst g.meant.sys limit (verify_cases g.meant.sys) c w
-      × (text ≡ failing_text g.meant c w) × (left ≡ None);
+      × IsShownCase g.meant.sys limit c w × (text ≡ failing_text g.meant c w) × (left ≡ None);
 }
 
 -- a query is above the limit and none before it has a world

@@ -14,7 +14,7 @@ pub returns-in-Fails : goal.returns-in-Fails
 returns-in-Fails g c =
     let found = rw c.in-Fails.is at c.in_ok-verify.ensures.found in
     let f = c.in-Fails.failure in
-    if_end c.failing.result _ _ (λ e is cs. inr (inl (record { comes = (case_of f, f.world, found); bytes = _; left = None; says = (case_of f, f.world, found, refl, refl); is = is }))) c.failing.ensures
+    if_end c.failing.result _ _ (λ e is cs. inr (inl (record { comes = (case_of f, f.world, found.0); bytes = _; left = None; says = (case_of f, f.world, found.0, found.1, refl, refl); is = is }))) c.failing.ensures
 
 pub returns-in-Over : goal.returns-in-Over
 returns-in-Over g c =
