@@ -1,6 +1,6 @@
 -- Where nothing is refused, a command answers.
-use Rattle.std.proofs.Common.{◌≡◌, ◌⊎◌, ◌<◌, ◌≤◌, ◌∙◌, ℕ, List, [], Option, Some, length, sym, ap, subst, inl, inr, arith}
-use Rattle.std.specs.Prelude.{codes, slice_get, unwrap_or}
+use Rattle.std.proofs.Common.{◌≡◌, ◌⊎◌, ◌<◌, ◌≤◌, ◌∙◌, ℕ, List, [], ◌∷◌, Option, Some, length, refl, sym, ap, subst, inl, inr, arith}
+use Rattle.std.specs.Prelude.{codes, slice_get, slice_index_or, unwrap_or}
 use Rattle.fo_core.specs.declared.names.Names.{Names}
 use Rattle.fo_core.specs.declared.order.Purpose.{Purpose}
 use Rattle.fo_core.specs.declared.order.Purpose.TheVariants as purpose
@@ -11,19 +11,33 @@ use Rattle.updr_told.specs.Statuses.{number_of}
 use Rattle.updr_told.specs.declared.status.Status.{Status}
 use Rattle.up_claims.specs.declared.report.Report.{Report}
 use Rattle.up_report.specs.Reports.{IsReport}
-use Rattle.updr_words.specs.Jobs.{Job}
-use Rattle.updr_table.specs.Rows.{Contents, content_at}
-use Rattle.updr_table.specs.Table.{AreComplete, Call, IsOneOf, NoneRefuses}
+use Rattle.std.specs.List.{AllZip}
+use Rattle.up_gen.specs.Models.{model_text_of}
+use Rattle.up_gen.specs.declared.models.TheConstants.{MOST_RELATIONS}
+use Rattle.up_gen_means.specs.Accepted.{IsAccepted}
+use Rattle.up_gen_means.proofs.Each.{each}
+use Rattle.up_machine.specs.declared.limits.Limits.{Limits}
+use Rattle.up_machine.proofs.Lists.{some_injective}
+use Rattle.clap.specs.Words.{matches_of}
+use Rattle.updr_words.specs.Forms.{app_by}
+use Rattle.updr_words.specs.Jobs.{GivesFile, Job}
+use Rattle.updr_words.proofs.OneJob.{in_range}
+use Rattle.updr_table.specs.Rows.{Contents, Row, content_at}
+use Rattle.updr_table.specs.Stages.{staged}
+use Rattle.updr_table.specs.Table.{AreComplete, Call, IsOneOf, IsShort, NoneRefuses}
 use Rattle.updr_model.specs.OneMeaning.{no_fault, one_meaning}
-use Rattle.updr_model.specs.OnModel.{Given, MeansGiven, cycle_row, fault_row}
+use Rattle.updr_model.specs.OnModel.{Given, MeansGiven, cycle_row, fault_row, if_stratified, over_model}
 use Rattle.updr_model.specs.Texts.{MeansText}
 use Rattle.updr_top.specs.Bmc.{bmc_command}
 use Rattle.updr_top.specs.Check.{check_command}
 use Rattle.updr_top.specs.Commands.{commands}
 use Rattle.updr_top.specs.Complete.{HasJudgeable, IsComplete}
-use Rattle.updr_top.specs.Infer.{infer_command}
+use Rattle.updr_top.specs.Demo.{demo_form, demo_rows, demo_table, demo_text, relations_of, usual_limits}
+use Rattle.updr_top.specs.Infer.{infer_command, limits_of, search_text}
 use Rattle.updr_top.specs.Reported.{HasNoReport, IsAsked, IsSecond, MeansReported, Reported, not_ordered}
+use Rattle.updr_top.specs.Tellings.{Printing, search_table}
 use Rattle.updr_top.specs.Verify.{verify_command}
+use Rattle.updr_top.proofs.DemoEnds.{is_number}
 
 -- two names of other lengths aren't both the first word
 pub apart : (words : List (List ℕ)) (a b : List ℕ) → ¬ (length a ≡ length b) → slice_get words 0 ≡ Some a → slice_get words 0 ≡ Some b → ⊥
@@ -74,8 +88,34 @@ module _ (contents : Contents) (sys : System) (names : Names) (means : MeansText
   bmc_unrefused : (job : Job) → IsStratified sys purpose.Infer → NoneRefuses (bmc_command.rows job) contents
   bmc_unrefused job is = (whole _, (whole _, (whole _, ((λ high. ordered purpose.Infer is), ((λ high. absurd (omega (arith, high))), ((λ high. absurd (omega (arith, high))), ((λ high. absurd (omega (arith, high))), tt)))))))
 
-  infer_unrefused : (job : Job) → IsStratified sys purpose.Infer → NoneRefuses (infer_command.rows job) contents
-  infer_unrefused job is = (whole _, (whole _, (whole _, ((λ high. ordered purpose.Infer is), ((λ high. absurd (omega (arith, high))), ((λ high. absurd (omega (arith, high))), ((λ high. absurd (omega (arith, high))), ((λ high. absurd (omega (arith, high))), ((λ high. absurd (omega (arith, high))), ((λ high. absurd (omega (arith, high))), tt))))))))))
+  search_unrefused : (printing : Printing) (limits : Limits) → IsStratified sys purpose.Infer → NoneRefuses (over_model (if_stratified purpose.Infer (search_table printing limits))) contents
+  search_unrefused printing limits is = (whole _, (whole _, (whole _, ((λ high. ordered purpose.Infer is), ((λ high. absurd (omega (arith, high))), ((λ high. absurd (omega (arith, high))), ((λ high. absurd (omega (arith, high))), ((λ high. absurd (omega (arith, high))), ((λ high. absurd (omega (arith, high))), ((λ high. absurd (omega (arith, high))), tt))))))))))
+
+-- ---- texts that are made
+
+-- what refuses none of the made contents refuses nothing
+made_unrefused : (made : Contents) (rows : List (Row Contents CoreView)) (x : Contents) → NoneRefuses rows made → NoneRefuses (staged (λ (cs : Contents) (m : Contents). m ≡ made) rows) x
+made_unrefused made [] x none = tt
+made_unrefused made (r ∷ rs) x none = ((λ high (m, is, comes). none.0 high (subst (λ (cs : Contents). r.comes cs) is comes)), made_unrefused made rs x none.1)
+
+-- a text that is accepted means its system
+accepted_means : (bytes : List ℕ) (a : IsAccepted bytes) → MeansText bytes a.sys a.names
+accepted_means bytes a = record {
+  model = a.model;
+  tree = record { tokens = a.tokens; has = record { text = a.text; cut = a.cut; few = a.few }; spells = a.spells };
+  means = a.means;
+}
+
+demo_unrefused : (n : ℕ) → 1 ≤ n → n ≤ MOST_RELATIONS → (x : Contents) → NoneRefuses (demo_rows n) x
+demo_unrefused n low high x =
+    let a = each n low high in
+    made_unrefused (model_text_of n ∷ []) (over_model (if_stratified purpose.Infer (demo_table n))) x
+    (search_unrefused (model_text_of n ∷ []) a.sys a.names (accepted_means (model_text_of n) a) (demo_text n) usual_limits a.stratified)
+
+-- the words name no file
+no_files : (P : List ℕ → List ℕ → Type 0) (fs : List (List ℕ)) → AllZip P [] fs → fs ≡ []
+no_files P [] h = refl
+no_files P (f ∷ fs) h = absurd h
 
 -- ---- the statuses of answers
 
@@ -115,29 +155,59 @@ module _ (contents : Contents) (n : ℕ) where
   bmc_answers job (inr (low, inr (inr (inr (inr (inr (inr (inl (_, is))))))))) = inr (inr (inl is))
   bmc_answers job (inr (low, inr (inr (inr (inr (inr (inr (inr none)))))))) = absurd none
 
-  infer_answers : (job : Job) → (n ≡ 16) ⊎ ((n < 10) × IsOneOf (infer_command.rows job) contents n) → (n ≤ 5) ⊎ (n ≡ 16)
-  infer_answers job (inl is) = inr is
-  infer_answers job (inr (low, inl (_, is))) = absurd (omega (arith, low, is))
-  infer_answers job (inr (low, inr (inl (_, is)))) = absurd (omega (arith, low, is))
-  infer_answers job (inr (low, inr (inr (inl (_, is))))) = absurd (omega (arith, low, is))
-  infer_answers job (inr (low, inr (inr (inr (inl (_, is)))))) = absurd (omega (arith, low, is))
-  infer_answers job (inr (low, inr (inr (inr (inr (inl (_, is))))))) = inl (omega (arith, is))
-  infer_answers job (inr (low, inr (inr (inr (inr (inr (inl (_, is)))))))) = inl (omega (arith, is))
-  infer_answers job (inr (low, inr (inr (inr (inr (inr (inr (inl (_, is))))))))) = inl (omega (arith, is))
-  infer_answers job (inr (low, inr (inr (inr (inr (inr (inr (inr (inl (_, is)))))))))) = inl (omega (arith, is))
-  infer_answers job (inr (low, inr (inr (inr (inr (inr (inr (inr (inr (inl (_, is))))))))))) = inl (omega (arith, is))
-  infer_answers job (inr (low, inr (inr (inr (inr (inr (inr (inr (inr (inr (inl (_, is)))))))))))) = inl (omega (arith, is))
-  infer_answers job (inr (low, inr (inr (inr (inr (inr (inr (inr (inr (inr (inr none))))))))))) = absurd none
+  -- each status is one of a search, or refuses
+  abbrev AreSearched : List (Row Contents CoreView) → Type 0
+  AreSearched [] = Unit {0}
+  AreSearched (r ∷ rs) = ((number_of r.status ≤ 5) ⊎ (10 ≤ number_of r.status)) × AreSearched rs
+
+  search_answer : (rows : List (Row Contents CoreView)) → AreSearched rows → n < 10 → IsOneOf rows contents n → n ≤ 5
+  search_answer [] all low h = absurd h
+  search_answer (r ∷ rs) all low (inl (_, is)) = of all.0
+    where
+      of : (number_of r.status ≤ 5) ⊎ (10 ≤ number_of r.status) → n ≤ 5
+      of (inl few) = omega (arith, few, is)
+      of (inr high) = absurd (omega (arith, high, is, low))
+  search_answer (r ∷ rs) all low (inr h) = search_answer rs all.1 low h
+
+  search_answers : (rows : List (Row Contents CoreView)) → AreSearched rows → (n ≡ 16) ⊎ ((n < 10) × IsOneOf rows contents n) → (n ≤ 5) ⊎ (n ≡ 16)
+  search_answers rows all (inl is) = inr is
+  search_answers rows all (inr (low, h)) = inl (search_answer rows all low h)
+
+  searched : (printing : Printing) (limits : Limits) → AreSearched (over_model (if_stratified purpose.Infer (search_table printing limits)))
+  searched printing limits = (inr (omega arith), (inr (omega arith), (inr (omega arith), (inr (omega arith), (inl (omega arith), (inl (omega arith), (inl (omega arith), (inl (omega arith), (inl (omega arith), (inl (omega arith), tt))))))))))
+
+  demo_searched : (k : ℕ) → AreSearched (demo_rows k)
+  demo_searched k = (inr (omega arith), (inr (omega arith), (inr (omega arith), (inr (omega arith), (inl (omega arith), (inl (omega arith), (inl (omega arith), (inl (omega arith), (inl (omega arith), (inl (omega arith), tt))))))))))
 
 -- ---- the clause
+
+-- nor are the words of `updr` those of `demo`
+not_demo : (words : List (List ℕ)) → slice_get words 0 ≡ Some (codes "updr") → slice_get words 0 ≡ Some (codes "demo") → ⊥
+not_demo words is other = differ (some_injective (codes "updr") (codes "demo") (sym is ∙ other))
+  where
+    first : List ℕ → ℕ
+    first text = slice_index_or text 0 0
+
+    differ : codes "updr" ≡ codes "demo" → ⊥
+    differ e = let bytes : first (codes "updr") ≡ first (codes "demo") = ap first e in omega (arith, bytes)
 
 module _ (words : List (List ℕ)) (call : Call CoreView) (all : AreComplete commands words call) where
   pub is_complete : IsComplete words call
   is_complete = record {
     updr = λ h.
-        infer_answers h.contents call.number h.job
+        search_answers h.contents call.number (infer_command.rows h.job) (searched h.contents call.number search_text (limits_of h.job))
         ((((all.1 (λ other. apart words (codes "check") (codes "updr") (λ is. absurd (omega (arith, is))) other h.named)).1 (λ other. apart words (codes "verify") (codes "updr") (λ is. absurd (omega (arith, is))) other h.named)).1 (λ other. apart words (codes "bmc") (codes "updr") (λ is. absurd (omega (arith, is))) other h.named)).0 h.named h.job h.asked h.contents
-        (record { good = h.good; out_quiet = h.out_quiet; err_quiet = h.err_quiet; unrefused = infer_unrefused h.contents h.sys h.names h.means h.job h.is }));
+        (record { good = h.good; out_quiet = h.out_quiet; err_quiet = h.err_quiet; unrefused = search_unrefused h.contents h.sys h.names h.means search_text (limits_of h.job) h.is }));
+    demo = λ h.
+        let range = is_number h.job.numbers (in_range demo_form words h.job h.asked) in
+        search_answers [] call.number (demo_rows (relations_of h.job)) (demo_searched [] call.number (relations_of h.job))
+        (((((all.1 (λ other. apart words (codes "check") (codes "demo") (λ is. absurd (omega (arith, is))) other h.named)).1 (λ other. apart words (codes "verify") (codes "demo") (λ is. absurd (omega (arith, is))) other h.named)).1 (λ other. apart words (codes "bmc") (codes "demo") (λ is. absurd (omega (arith, is))) other h.named)).1 (λ other. not_demo words other h.named)).0 h.named h.job h.asked []
+        (record {
+          good = record { told = subst (λ (fs : List (List ℕ)). AllZip (IsShort call.files) fs []) (sym (no_files (GivesFile (matches_of (app_by demo_form) words)) h.job.files h.asked.files)) tt; quiet = h.files_quiet };
+          out_quiet = h.out_quiet;
+          err_quiet = h.err_quiet;
+          unrefused = demo_unrefused (relations_of h.job) range.0 range.1 [];
+        }));
     check = λ h.
         check_answers h.contents call.number h.job
         (all.0 h.named h.job h.asked h.contents

@@ -16,6 +16,7 @@ use Rattle.updr_table.specs.Table.{AreGood, Call}
 use Rattle.updr_model.specs.Texts.{MeansText}
 use Rattle.updr_top.specs.Bmc.{bmc_command}
 use Rattle.updr_top.specs.Check.{check_command}
+use Rattle.updr_top.specs.Demo.{demo_command, demo_form}
 use Rattle.updr_top.specs.Infer.{infer_command}
 use Rattle.updr_top.specs.Reported.{IsAsked}
 use Rattle.updr_top.specs.Verify.{verify_command}
@@ -46,11 +47,22 @@ HasJudgeable sys names contents =
 abbrev pub IsStratifiedFor : Purpose → System → Names → Contents → Type 0
 IsStratifiedFor purpose sys names contents = IsStratified sys purpose
 
+-- `demo` is named, its words are read, no read of a file failed, and no put failed; nothing is asked
+-- of the model, since each that is made means a stratified system
+pub record IsGoodDemo (words : List (List ℕ)) (call : Call CoreView) : Type 0 where
+  pub named : IsNamed demo_command words
+  pub job : Job
+  pub asked : IsJob demo_form words job
+  pub files_quiet : ¬ Rose call.files.before call.files.after
+  pub out_quiet : ¬ Rose call.out.faults call.out.faults_after
+  pub err_quiet : ¬ Rose call.err.faults call.err.faults_after
+
 -- The statuses of good calls. Want of memory, 16, is always free.
 pub record IsComplete (words : List (List ℕ)) (call : Call CoreView) : Type 0 where
   pub updr :
       IsGoodCall infer_command (IsStratifiedFor purpose.Infer) words call
       → (call.number ≤ 5) ⊎ (call.number ≡ 16)
+  pub demo : IsGoodDemo words call → (call.number ≤ 5) ⊎ (call.number ≡ 16)
   pub check :
       IsGoodCall check_command HasJudgeable words call
       → (call.number ≡ 0) ⊎ (call.number ≡ 5) ⊎ (call.number ≡ 6) ⊎ (call.number ≡ 8)
