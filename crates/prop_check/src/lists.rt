@@ -51,6 +51,22 @@ impl WatchLists {
         self.nodes.reserve(clauses.saturating_mul(2))
     }
 
+    /// Adds empty lists for the literals of `n` more variables. After an error, which is out of
+    /// memory, the lists are what they were.
+    pub fn add_vars(&mut self, n: u32) -> Result<(), AllocError> {
+        let more = n as usize * 2;
+        self.heads.reserve(more)?;
+        for _ in 0..more {
+            self.heads.push(NONE)?;
+        }
+        Ok(())
+    }
+
+    /// How many variables there are lists for.
+    pub fn vars(&self) -> usize {
+        self.heads.len() / 2
+    }
+
     /// How many nodes there are: two for each clause.
     pub fn len(&self) -> usize {
         self.nodes.len()
@@ -87,6 +103,21 @@ impl WatchLists {
                 next: self.heads[list],
             };
             self.heads[list] = node;
+        }
+    }
+
+    /// Empties each list.
+    pub fn empty(&mut self) {
+        for head in self.heads.iter_mut() {
+            *head = NONE;
+        }
+    }
+
+    /// Puts a node, which stands in no list, back in front of the list in which it stood last.
+    pub fn relink(&mut self, node: usize) {
+        if let Some(found) = self.nodes.get(node) {
+            let lit = found.lit;
+            self.link(node, lit);
         }
     }
 

@@ -78,6 +78,14 @@ impl Watches {
         })
     }
 
+    /// Adds the lists of `n` variables.
+    pub fn add_vars(&mut self, n: u32) -> Result<(), AllocError> {
+        self.queue.clear();
+        self.queue
+            .reserve((n as usize).saturating_add(self.lists.vars()))?;
+        self.lists.add_vars(n)
+    }
+
     /// Makes room for `n` more clauses.
     pub fn reserve(&mut self, n: usize) -> Result<(), AllocError> {
         self.lists.reserve(n)

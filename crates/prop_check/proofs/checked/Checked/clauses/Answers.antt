@@ -1,7 +1,5 @@
-use Rattle.std.proofs.Common.{◌∙◌, sym, ap}
-use Rattle.std.proofs.lemmas.List.{take-append-drop}
-use Rattle.prop_check.specs.Kept.{kept}
+use Rattle.prop_check.proofs.Views.{merged_for}
 use Rattle.prop_check.proofs.checked.Checked.clauses.Goals as goal
 
-pub returns : goal.returns
-returns c = c.as_slice.ensures.value ∙ sym (take-append-drop c.self.inside.given _) ∙ ap kept c.self.view_is
+pub returns-clause-merged : goal.returns-clause-merged
+returns-clause-merged c = merged_for _ _ _ _ _ _ c.self.invariant.0.marked c.as_slice.ensures.value c.self.view_is
