@@ -1,5 +1,5 @@
 -- The search ends.
-use Rattle.std.proofs.Common.{◌≡◌, ℕ, ◌<◌, ◌+◌, ◌-◌, ◌*◌, Bool, true, false, zero, suc, List, [], ◌∷◌, ◌++◌, length, ◌∙◌, ap, arith}
+use Rattle.std.proofs.Common.{◌≡◌, ℕ, ◌<◌, ◌+◌, ◌-◌, ◌*◌, Bool, true, false, zero, suc, List, [], ◌∷◌, ◌++◌, length, ◌∙◌, ap, sym, subst, arith}
 use Rattle.std.proofs.lemmas.List.{length_push}
 use Rattle.prop_plain.specs.Search.{turns, turns_above, turns_left}
 
@@ -35,6 +35,9 @@ one_false n m e = let f : m + 1 ≡ suc m = omega arith in ap (λ k. turns_above
 
 pub fewer_refuted : (n : ℕ) (path : List Bool) → turns_left n path true < turns_left n path false
 fewer_refuted n path = let h = turns_positive (n - length path) in omega (arith, h)
+
+pub fewer_taken : (n : ℕ) (path : List Bool) (refuted : Bool) → refuted ≡ false → turns_left n path true < turns_left n path refuted
+fewer_taken n path refuted e = let P : Bool → Type 0 = λ b. turns_left n path true < turns_left n path b in subst P (sym e) (fewer_refuted n path)
 
 module _ (n : ℕ) (path : List Bool) (fits : length path < n) where
   below : ℕ

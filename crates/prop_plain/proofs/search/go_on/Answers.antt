@@ -1,6 +1,7 @@
 use Rattle.std.proofs.Common.{◌≡◌, ◌≢◌, List, Bool, length, ap, sym, subst, ◌∙◌}
 use Rattle.prop_core.specs.Formula.{value_of, MeetsAll}
 use Rattle.prop_plain.proofs.Steps.{both_step, both_fewer, second_step, second_fewer, offered_step, pushed_step, pushed_fewer, room_left, met_step, refuted_at_end}
+use Rattle.prop_plain.proofs.Turns.{fewer_taken}
 use Rattle.std.proofs.lemmas.List.{nil_from_length}
 use Rattle.prop_core.proofs.Soundness.{refutation_sound}
 use Rattle.prop_plain.proofs.search.go_on.Goals as goal
@@ -24,6 +25,9 @@ loop-refuted-preserved-else-second c =
 pub loop-refuted-preserved-then-branch : goal.loop-refuted-preserved-then-branch
 loop-refuted-preserved-then-branch c =
     offered_step _ _ _ _ _ c.loop-refuted.invariant _ _ _ c.if-refuted.false c.as_slice-else-refuted.ensures.value c.in_ok-offer.ensures c.if-branch.true
+
+pub loop-refuted-smaller-then-branch : goal.loop-refuted-smaller-then-branch
+loop-refuted-smaller-then-branch c = fewer_taken _ _ _ c.if-refuted.false
 
 pub returns-in-None-clause-answer : goal.returns-in-None-clause-answer
 returns-in-None-clause-answer c =
