@@ -47,6 +47,19 @@ impl Order {
         })
     }
 
+    /// Grows to that many variables, the new ones after the others.
+    pub fn grow(&mut self, vars: usize) -> Result<(), AllocError> {
+        self.heap.reserve(vars.saturating_sub(self.heap.len()))?;
+        for _ in self.scores.len()..vars {
+            self.scores.push(0)?;
+        }
+        for var in self.places.len()..vars {
+            self.places.push(NONE)?;
+            self.insert(var);
+        }
+        Ok(())
+    }
+
     fn score(&self, var: usize) -> u64 {
         match self.scores.get(var) {
             Some(score) => *score,

@@ -1,4 +1,4 @@
-//! The search: propagation, decisions, restarts, and what a learnt clause does.
+//! The search: propagation, assumptions, decisions, restarts, and what a learnt clause does.
 use crate::analysis::{Analysis, watched};
 use crate::order::Order;
 use crate::trail::{Reason, Trail};
@@ -9,13 +9,19 @@ use std::alloc::{AllocError, Global};
 /// Conflicts before the first restart, and how many more before each later one.
 const RESTART: u64 = 100;
 
-/// Where the search stopped.
+/// Learnt clauses that are watched before idle ones leave the watches, and how many more each
+/// later time.
+const WATCHED: usize = 1000;
+
+/// What the search came to.
 #[derive(Drop)]
 pub enum Event {
     /// Each variable has a value, and no conflict was seen.
     Values(Vec<bool>),
     /// A clause that may follow.
     Learnt(Clause),
+    /// The assumptions for which `is_needed` answers true may not be true together.
+    Denied,
     /// Nothing more can be done.
     Lost,
 }
@@ -30,31 +36,84 @@ enum Look {
     Conflict,
 }
 
+/// What a decision came to.
+enum Step {
+    /// A level began.
+    Goes,
+    /// Each variable has a value.
+    Full,
+    /// An assumption is false.
+    Denied,
+}
+
+/// What the values of level 0 leave of a clause.
+enum Rest {
+    /// One of its literals is true.
+    True,
+    /// Two of its literals aren't false, and maybe more.
+    Two(Lit, Lit),
+    /// Only this literal isn't false.
+    One(Lit),
+    /// Each of its literals is false.
+    False,
+}
+
+/// A clause's part in the search.
+#[derive(Clone, Copy, PartialEq, Eq)]
+enum Standing {
+    /// It isn't watched.
+    Unwatched,
+    /// It was given.
+    Given,
+    /// It was learnt, and took part in no conflict lately.
+    Idle,
+    /// It was learnt, and took part in one.
+    Busy,
+}
+
 #[derive(Drop)]
 pub struct Search {
     trail: Trail,
     lists: WatchLists,
+    /// Each clause's part, by its place.
+    standings: Vec<Standing>,
     order: Order,
     analysis: Analysis,
     vars: u32,
-    /// Whether the clauses of one literal contradict each other, or one has no literal.
+    /// Whether the clauses contradict each other without a decision.
     refuted: bool,
     /// Conflicts since the last restart, and how many are let pass before the next.
     conflicts: u64,
     limit: u64,
+    /// How many learnt clauses are watched, and how many of them there may be.
+    watched: usize,
+    most_watched: usize,
 }
 
-/// The first literal of the clause, and the first one that differs from it.
-fn two_of(clause: &[Lit]) -> (Option<Lit>, Option<Lit>) {
-    let Some(first) = clause.first() else {
-        return (None, None)
-    };
+/// What the values of level 0 leave of this clause.
+fn rest_of(clause: &[Lit], trail: &Trail) -> Rest {
+    let mut first: Option<Lit> = None;
+    let mut second: Option<Lit> = None;
     for lit in clause {
-        if lit != first {
-            return (Some(*first), Some(*lit));
+        if trail.is_true(*lit) {
+            return Rest::True;
+        }
+        if !trail.is_false(*lit) {
+            match first {
+                None => first = Some(*lit),
+                Some(other) => {
+                    if other != *lit && second.is_none() {
+                        second = Some(*lit);
+                    }
+                }
+            }
         }
     }
-    (Some(*first), None)
+    match (first, second) {
+        (Some(one), Some(other)) => Rest::Two(one, other),
+        (Some(only), None) => Rest::One(only),
+        _ => Rest::False,
+    }
 }
 
 impl Search {
@@ -63,67 +122,209 @@ impl Search {
         let mut search = Search {
             trail: Trail::new(alloc, vars as usize)?,
             lists: WatchLists::new(alloc, vars)?,
+            standings: Vec::with_capacity(alloc, clauses.len())?,
             order: Order::new(alloc, vars as usize)?,
             analysis: Analysis::new(alloc, vars as usize)?,
             vars,
             refuted: false,
             conflicts: 0,
             limit: RESTART,
+            watched: 0,
+            most_watched: WATCHED,
         };
         search.lists.reserve(clauses.len())?;
         for (at, clause) in clauses.iter().enumerate() {
-            search.begin(clause.as_slice(), at);
+            search.start(clause.as_slice(), at);
         }
         Ok(search)
     }
 
-    /// Takes one of the given clauses.
-    fn begin(&mut self, clause: &[Lit], at: usize) {
-        match two_of(clause) {
-            (Some(first), Some(second)) => self.lists.attach(Some(first), Some(second)),
-            (Some(only), None) => {
-                self.lists.attach(None, None);
-                if self.trail.is_false(only) {
-                    self.refuted = true;
-                } else if !self.trail.is_true(only) {
-                    self.trail.assign(only, Reason::Clause(at));
-                }
+    /// Takes one of the given clauses, which gets the place `at`. No decision may stand.
+    fn start(&mut self, clause: &[Lit], at: usize) {
+        match rest_of(clause, &self.trail) {
+            Rest::True => self.attach(None, Standing::Unwatched),
+            Rest::Two(first, second) => self.attach(Some((first, second)), Standing::Given),
+            Rest::One(only) => {
+                self.attach(None, Standing::Unwatched);
+                self.trail.assign(only, Reason::Clause(at));
             }
-            _ => {
-                self.lists.attach(None, None);
+            Rest::False => {
+                self.attach(None, Standing::Unwatched);
                 self.refuted = true;
             }
         }
     }
 
+    /// The next clause is watched at these literals, if at any.
+    fn attach(&mut self, literals: Option<(Lit, Lit)>, standing: Standing) {
+        if self.standings.len() < self.standings.capacity() {
+            self.standings.push_reserved(standing);
+        }
+        match literals {
+            Some((first, second)) => self.lists.attach(Some(first), Some(second)),
+            None => self.lists.attach(None, None),
+        }
+    }
+
     /// Makes room for one more clause.
     pub fn reserve(&mut self) -> Result<(), AllocError> {
+        self.standings.reserve(1)?;
         self.lists.reserve(1)
     }
 
-    /// Goes on until there is a conflict, or each variable has a value.
-    pub fn run(&mut self, alloc: Global, clauses: &[Clause]) -> Result<Event, AllocError> {
+    /// Takes one more given clause, for which there is room. All decisions are taken back.
+    pub fn give(&mut self, clause: &[Lit], at: usize) {
+        self.undo_to(0);
+        self.start(clause, at);
+    }
+
+    /// Adds `n` variables.
+    pub fn add_vars(&mut self, n: u32) -> Result<(), AllocError> {
+        let vars = (self.vars as usize).saturating_add(n as usize);
+        self.trail.grow(vars)?;
+        self.lists.add_vars(n)?;
+        self.order.grow(vars)?;
+        self.analysis.grow(vars)?;
+        self.vars = self.vars.saturating_add(n);
+        Ok(())
+    }
+
+    /// Begins a question under that many assumptions. All decisions are taken back.
+    pub fn begin(&mut self, assumptions: usize) -> Result<(), AllocError> {
+        self.undo_to(0);
+        self.conflicts = 0;
+        self.limit = RESTART;
+        self.trail
+            .reserve_levels(assumptions.saturating_add(self.vars as usize))
+    }
+
+    /// The places of the clauses from which the last clause was learnt, or from which the last
+    /// answer `Denied` follows together with what holds without decisions.
+    pub fn used(&self) -> &[usize] {
+        self.analysis.used()
+    }
+
+    /// The places of the clauses on which the last answer `Denied` rests: those that were used, and
+    /// those that make a literal true without decisions.
+    pub fn roots(&self, alloc: Global) -> Result<Vec<usize>, AllocError> {
+        let mut roots = self.used().to_vec(alloc)?;
+        for place in 0..self.trail.len() {
+            let Some(at) = self.trail.root_reason(place) else {
+                break
+            };
+            roots.push(at)?;
+        }
+        Ok(roots)
+    }
+
+    /// Whether the last answer `Denied` rests on this assumption.
+    pub fn is_needed(&self, lit: Lit) -> bool {
+        self.analysis.is_in_core(lit)
+    }
+
+    /// Goes on until there is a conflict, or each variable has a value, the assumptions' first.
+    pub fn run(
+        &mut self,
+        alloc: Global,
+        clauses: &[Clause],
+        assumptions: &[Lit],
+    ) -> Result<Event, AllocError> {
         if self.refuted {
-            return Ok(Event::Learnt(Clause::new(alloc)));
+            self.analysis.empty_core();
+            return Ok(Event::Denied);
+        }
+        self.tidy(assumptions.len());
+        for _ in 0..=assumptions.len().saturating_add(self.vars as usize) {
+            if let Some(conflict) = self.propagate(clauses) {
+                return self.learn(alloc, clauses, conflict);
+            }
+            match self.go_deeper(clauses, assumptions) {
+                Step::Goes => {}
+                Step::Full => return Ok(Event::Values(self.trail.values(alloc)?)),
+                Step::Denied => return Ok(Event::Denied),
+            }
+        }
+        Ok(Event::Lost)
+    }
+
+    /// Restarts, and lets idle clauses leave the watches, where it is time to. The levels of the
+    /// assumptions stay.
+    fn tidy(&mut self, assumptions: usize) {
+        if self.watched >= self.most_watched {
+            self.watched = self.let_go();
+            self.most_watched = self.watched.saturating_add(WATCHED);
         }
         if self.conflicts >= self.limit {
             self.conflicts = 0;
             self.limit = self.limit.saturating_add(RESTART);
-            self.restart();
+            self.undo_to(assumptions);
         }
-        for _ in 0..=self.vars {
-            if let Some(conflict) = self.propagate(clauses) {
-                self.conflicts = self.conflicts.saturating_add(1);
-                let learnt = self
-                    .analysis
-                    .learn(alloc, clauses, conflict, &self.trail, &mut self.order)?;
-                return Ok(Event::Learnt(learnt));
-            }
-            if !self.decide() {
-                return Ok(Event::Values(self.trail.values(alloc)?));
+    }
+
+    /// Takes the learnt clauses out of the watches that took part in no conflict since the last
+    /// time, and answers how many others there are.
+    fn let_go(&mut self) -> usize {
+        let mut left: usize = 0;
+        self.lists.empty();
+        for at in 0..self.standings.len() {
+            let standing = self.standings[at];
+            if standing == Standing::Idle {
+                self.standings[at] = Standing::Unwatched;
+            } else if standing != Standing::Unwatched {
+                self.lists.relink(at.saturating_mul(2));
+                self.lists.relink(at.saturating_mul(2).saturating_add(1));
+                if standing == Standing::Busy {
+                    self.standings[at] = Standing::Idle;
+                    left = left.saturating_add(1);
+                }
             }
         }
-        Ok(Event::Lost)
+        left
+    }
+
+    /// What a conflict teaches. On level 0 it is that no values meet the clauses.
+    fn learn(
+        &mut self,
+        alloc: Global,
+        clauses: &[Clause],
+        conflict: usize,
+    ) -> Result<Event, AllocError> {
+        self.conflicts = self.conflicts.saturating_add(1);
+        if self.trail.level() == 0 {
+            self.refuted = true;
+            self.analysis.refute(conflict);
+            return Ok(Event::Denied);
+        }
+        let learnt = self
+            .analysis
+            .learn(alloc, clauses, conflict, &self.trail, &mut self.order)?;
+        for at in self.analysis.used() {
+            if *at < self.standings.len() && self.standings[*at] == Standing::Idle {
+                self.standings[*at] = Standing::Busy;
+            }
+        }
+        Ok(Event::Learnt(learnt))
+    }
+
+    /// Assumes the next assumption, or decides the next variable where none is left.
+    fn go_deeper(&mut self, clauses: &[Clause], assumptions: &[Lit]) -> Step {
+        match assumptions.get(self.trail.level()) {
+            None => {
+                if self.decide() {
+                    Step::Goes
+                } else {
+                    Step::Full
+                }
+            }
+            Some(lit) => {
+                if self.trail.is_false(*lit) {
+                    self.analysis.find_core(clauses, *lit, &self.trail);
+                    return Step::Denied;
+                }
+                self.trail.assume(*lit);
+                Step::Goes
+            }
+        }
     }
 
     /// Propagates what became true, and answers a clause that is false.
@@ -207,26 +408,22 @@ impl Search {
         self.trail.cut(level);
     }
 
-    /// Takes back all decisions.
-    pub fn restart(&mut self) {
-        self.undo_to(0);
-    }
-
     /// Takes the last clause, which was learnt, and goes back to where it makes a literal true.
     pub fn take(&mut self, clauses: &[Clause]) {
         let Some(at) = clauses.len().checked_sub(1) else {
             return
         };
+        self.watched = self.watched.saturating_add(1);
         let (asserted, second) = watched(clauses[at].as_slice(), &self.trail);
         match second {
             Some(lit) => {
                 let level = self.trail.level_of(lit);
                 self.undo_to(level);
-                self.lists.attach(Some(asserted), Some(lit));
+                self.attach(Some((asserted, lit)), Standing::Busy);
             }
             None => {
                 self.undo_to(0);
-                self.lists.attach(None, None);
+                self.attach(None, Standing::Unwatched);
             }
         }
         if self.trail.is_open(asserted.var as usize) {

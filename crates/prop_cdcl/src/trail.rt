@@ -40,6 +40,30 @@ impl Trail {
         })
     }
 
+    /// Grows to that many variables, the new ones without a value.
+    pub fn grow(&mut self, vars: usize) -> Result<(), AllocError> {
+        self.lits.reserve(vars.saturating_sub(self.lits.len()))?;
+        for _ in self.values.len()..vars {
+            self.values.push(None)?;
+        }
+        for _ in self.saved.len()..vars {
+            self.saved.push(false)?;
+        }
+        for _ in self.levels.len()..vars {
+            self.levels.push(0)?;
+        }
+        for _ in self.reasons.len()..vars {
+            self.reasons.push(Reason::Decision)?;
+        }
+        Ok(())
+    }
+
+    /// Makes room for that many levels.
+    pub fn reserve_levels(&mut self, levels: usize) -> Result<(), AllocError> {
+        self.starts
+            .reserve(levels.saturating_sub(self.starts.len()))
+    }
+
     /// How many decisions stand.
     pub fn level(&self) -> usize {
         self.starts.len()
@@ -109,6 +133,17 @@ impl Trail {
         }
     }
 
+    /// Begins a level with a literal that is assumed, where it isn't true already.
+    pub fn assume(&mut self, lit: Lit) {
+        if self.starts.len() >= self.starts.capacity() {
+            return;
+        }
+        self.starts.push_reserved(self.lits.len());
+        if self.is_open(lit.var as usize) {
+            self.assign(lit, Reason::Decision);
+        }
+    }
+
     /// Begins a level with the variable's saved value.
     pub fn decide(&mut self, var: u32) {
         if self.starts.len() >= self.starts.capacity() {
@@ -120,6 +155,17 @@ impl Trail {
             None => false,
         };
         self.assign(Lit { var, positive }, Reason::Decision);
+    }
+
+    /// Where the clause stands that made the literal at a place true on level 0.
+    pub fn root_reason(&self, at: usize) -> Option<usize> {
+        if at >= self.start_of(0) {
+            return None;
+        }
+        match self.reason_of(self.lit(at)?) {
+            Reason::Clause(place) => Some(place),
+            Reason::Decision => None,
+        }
     }
 
     /// The next literal to propagate.
