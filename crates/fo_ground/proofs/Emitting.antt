@@ -55,20 +55,20 @@ pub agrees_on : (n : ℕ) (v u t : V) → Agrees n v u → Agrees n u t → Agre
 agrees_on n v u t h k = λ i lt. k i lt ∙ h i lt
 
 -- one variable reassigned
-abbrev given : V → ℕ → Bool → V
+abbrev pub given : V → ℕ → Bool → V
 given v h b = λ k. cond (k == h) b (v k)
 
-given-same : (v : V) (h : ℕ) (b : Bool) → given v h b h ≡ b
+pub given-same : (v : V) (h : ℕ) (b : Bool) → given v h b h ≡ b
 given-same v h b = ap (λ t. cond t b (v h)) ((Decides-eqb h h).1 refl)
 
-given-agrees : (v : V) (n : ℕ) (b : Bool) → Agrees n v (given v n b)
+pub given-agrees : (v : V) (n : ℕ) (b : Bool) → Agrees n v (given v n b)
 given-agrees v n b k lt = by_case (k == n) refl
   where
     by_case : (t : Bool) → (k == n) ≡ t → cond t b (v k) ≡ v k
     by_case true e = let same : k ≡ n = (Decides-eqb k n).0 e in absurd (omega arith)
     by_case false e = refl
 
-meets_only : (v : V) (l : Lit) → MeetsClause v (l ∷ []) → v l.var ≡ l.positive
+pub meets_only : (v : V) (l : Lit) → MeetsClause v (l ∷ []) → v l.var ≡ l.positive
 meets_only v l h = by_case (Any-push_cases (λ l. v l.var ≡ l.positive) [] l h)
   where
     by_case : Any (λ (l : Lit). v l.var ≡ l.positive) [] ⊎ (v l.var ≡ l.positive) → v l.var ≡ l.positive

@@ -19,7 +19,7 @@ use Rattle.fo_ground.specs.declared.grounded.Grounded.{Grounded}
 use Rattle.fo_ground.specs.declared.layout.Layout.{Layout}
 use Rattle.fo_ground.specs.Classes.{IsNaming, class_world}
 use Rattle.fo_ground.specs.Layout.{slot, same_var, same_by, fact_by}
-use Rattle.fo_ground.specs.Grounds.{form_layout, AreMetBy, IsGrounded}
+use Rattle.fo_ground.specs.Grounds.{form_layout, AreMetBy, IsGrounded, IsListed}
 use Rattle.fo_ground.proofs.ClassWorld.{IsBasis}
 use Rattle.fo_ground.proofs.FactLemmas.{same_var-sym}
 use Rattle.fo_ground.proofs.Models.{sig-whole, from_values, world-naming, world-met}
@@ -60,27 +60,31 @@ module _ (sig : Sig) (form : SkolemForm) (u : Universe) (sorts : IsSig sig) (is 
   abbrev at : ℕ → ℕ → List ℕ → ℕ
   at = slot u lay
 
-  module _ (g : Grounded) (grounded : IsGrounded sig form u g) where
+  module _ (atoms : List Atom) (listed : IsListed u (form_layout sig form u) atoms) where
     -- the variable of an equation says that the values are equal
-    either_order : (reads : ℕ → ℕ → List ℕ → ℕ) (m : ℕ → ℕ) (s p q : ℕ) → IsOf u.terms s p → IsOf u.terms s q → (q < p) ⊎ (p ≤ q) → atom_truth reads m (get_or g.atoms (same_var u lay p q) Helper) ≡ (m p == m q)
+    either_order : (reads : ℕ → ℕ → List ℕ → ℕ) (m : ℕ → ℕ) (s p q : ℕ) → IsOf u.terms s p → IsOf u.terms s q → (q < p) ⊎ (p ≤ q) → atom_truth reads m (get_or atoms (same_var u lay p q) Helper) ≡ (m p == m q)
     unfolding atom_truth
-    either_order reads m s p q b c (inr le) = ap (atom_truth reads m) (grounded.listed.same s p q b c le)
+    either_order reads m s p q b c (inr le) = ap (atom_truth reads m) (listed.same s p q b c le)
     either_order reads m s p q b c (inl lt) =
-        ap (λ x. atom_truth reads m (get_or g.atoms x Helper)) (same_var-sym u lay p q) ∙ ap (atom_truth reads m) (grounded.listed.same s q p c b (omega arith)) ∙ eqb-sym (m q) (m p)
+        ap (λ x. atom_truth reads m (get_or atoms x Helper)) (same_var-sym u lay p q) ∙ ap (atom_truth reads m) (listed.same s q p c b (omega arith)) ∙ eqb-sym (m q) (m p)
 
-    -- a world that meets the form gives values that meet the clauses
-    pub world-values : (w : World) → MeetsForm sig form w → (v : ℕ → Bool) × MeetsAll v g.cnf.clauses
+    -- a world that meets the form gives values of the atoms that meet the axioms and instances
+    pub atom-values : (w : World) → MeetsForm sig form w → (v : ℕ → Bool) × AreMetBy sig form u v
     unfolding atom_truth
-    world-values w meets =
+    atom-values w meets =
         let reads = reads_in u.terms at sig form w is universe places meets in
         let m = named_in u.terms at sig form w is universe places meets in
-        let a = λ (x : ℕ). atom_truth reads m (get_or g.atoms x Helper) in
+        let a = λ (x : ℕ). atom_truth reads m (get_or atoms x Helper) in
         let naming = naming-agrees u.terms at (λ p q. m p == m q) (same_by u lay a) (λ r c ps. reads c r (map m ps) == 1) (fact_by u lay a)
         (whole sig form) form.copies w.sizes reads m
         (λ s p q b c. either_order reads m s p q b c (cases_lt q p))
-        (λ r c ps i of. ap (atom_truth reads m) (grounded.listed.facts r c ps i of))
+        (λ r c ps i of. ap (atom_truth reads m) (listed.facts r c ps i of))
         (world-naming u.terms at sig form w is universe places meets) in
-        grounded.complete a (world-met u.terms at sig form w is universe places meets (same_by u lay a) (fact_by u lay a) naming)
+        (a, world-met u.terms at sig form w is universe places meets (same_by u lay a) (fact_by u lay a) naming)
+
+  -- and with them values that meet the clauses
+  pub world-values : (g : Grounded) → IsGrounded sig form u g → (w : World) → MeetsForm sig form w → (v : ℕ → Bool) × MeetsAll v g.cnf.clauses
+  world-values g grounded w meets = let r = atom-values g.atoms grounded.listed w meets in grounded.complete r.0 r.1
 
   basis : IsBasis u.terms at (whole sig form) form.copies
   basis = record {

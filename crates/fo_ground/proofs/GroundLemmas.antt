@@ -2,6 +2,7 @@
 use Rattle.std.proofs.Common.{◌≡◌, ℕ, Bool, true, false, ◌<◌, ◌≤◌, ◌^◌, ◌⊎◌, inl, inr, List, [], ◌++◌, length, map, refl, sym, ap, subst, ◌∙◌, arith, length-append}
 use Rattle.std.specs.List.{All, range_with_len}
 use Rattle.std.specs.Prelude.{replicate, slice_index_or}
+use Rattle.std.proofs.lemmas.List.{append-nil}
 use Rattle.std.proofs.lemmas.List.Elements.{All-nil}
 use Rattle.fo_core.specs.declared.signature.Sig.{Sig}
 use Rattle.fo_core.specs.declared.signature.Symbol.{Symbol}
@@ -22,19 +23,17 @@ use Rattle.fo_ground.specs.declared.grounded.Atom.{Atom}
 use Rattle.fo_ground.specs.declared.grounded.Atom.TheVariants.{Helper}
 use Rattle.fo_ground.specs.declared.grounded.Grounded.{Grounded}
 use Rattle.fo_ground.specs.declared.layout.Layout.{Layout}
-use Rattle.fo_ground.specs.Axioms.{AreAlike, AreChangedFacts, AreChangedTerms}
 use Rattle.fo_ground.specs.Emits.{Adds}
-use Rattle.fo_ground.specs.Grounds.{IsListed, IsShaped, CanGround, form_layout, AreMetBy, IsGrounded}
+use Rattle.fo_ground.specs.Grounds.{IsListed, IsShaped, CanGround, form_atoms, form_layout, AreMetBy, IsGrounded}
 use Rattle.fo_ground.specs.Instances.{AreMet}
-use Rattle.fo_ground.specs.Layout.{slot, same_by, fact_by, IsLaidOut, IsMetBy}
+use Rattle.fo_ground.specs.Layout.{slot, same_by, fact_by, IsEqualityBy, IsLaidOut, IsMetBy}
 use Rattle.fo_ground.specs.Numbers.{atoms_of, layout_of}
 use Rattle.fo_ground.proofs.AtomShapes.{shaped}
 use Rattle.fo_ground.proofs.AxiomLemmas.{none-within}
 use Rattle.fo_ground.proofs.Emitting.{adds_and}
-use Rattle.fo_ground.proofs.EqualityLemmas.{equality-from, alike-of, facts-of, terms-of}
 use Rattle.fo_ground.specs.Reading.{count_by, tables_by}
 use Rattle.fo_ground.proofs.CongruenceLemmas.{any-default}
-use Rattle.fo_ground.proofs.Finish.{world-values, values-world}
+use Rattle.fo_ground.proofs.Finish.{atom-values, world-values, values-world}
 use Rattle.fo_ground.proofs.Models.{sig-whole, symbol-whole}
 use Rattle.fo_ground.proofs.Numbering.{listed}
 use Rattle.fo_ground.proofs.Ready.{place-is, ready}
@@ -90,34 +89,30 @@ module _ (sig : Sig) (form : SkolemForm) (u : Universe) (can : CanGround sig for
     pub own-copies : lay.copies ≡ form.copies
     own-copies = subst (λ (l : Layout). l.copies ≡ form.copies) (sym same) refl
 
+    -- under values of the variables: by the layout, and by the form
+    pub met-from : (v : V) → IsEqualityBy u lay v → All (λ f. IsMetBy u lay f [] v) form.claims → AreMetBy sig form u v
+    met-from v equality instances = subst (λ (l : Layout). AreMet u.terms (slot u l) (same_by u l v) (fact_by u l v) l.sig l.copies form.claims) same
+        (record { equality = equality; instances = instances })
+
+    pub met-to : (v : V) → AreMetBy sig form u v → IsEqualityBy u lay v × All (λ f. IsMetBy u lay f [] v) form.claims
+    met-to v m =
+        let m' = subst (λ (l : Layout). AreMet u.terms (slot u l) (same_by u l v) (fact_by u l v) l.sig l.copies form.claims) (sym same) m in
+        (m'.equality, m'.instances)
+
     -- all clauses together
-    module _ (small : lay.base < 2 ^ 32) (n1 : ℕ) (K1 : List (List Lit)) (n2 : ℕ) (K2 : List (List Lit)) (n3 : ℕ) (K3 : List (List Lit)) (n4 : ℕ) (K4 : List (List Lit))
-        (alike : Adds lay.base [] (AreAlike u lay) lay.base [] n1 K1) (terms : Adds lay.base [] (AreChangedTerms u lay) n1 K1 n2 K2)
-        (facts : Adds lay.base [] (AreChangedFacts u lay) n2 K2 n3 K3) (claims : Adds lay.base [] (λ v. All (λ f. IsMetBy u lay f [] v) form.claims) n3 K3 n4 K4) where
+    module _ (small : lay.base < 2 ^ 32) (n3 : ℕ) (K3 : List (List Lit)) (n4 : ℕ) (K4 : List (List Lit))
+        (axioms : Adds lay.base [] (IsEqualityBy u lay) lay.base [] n3 K3) (claims : Adds lay.base [] (λ v. All (λ f. IsMetBy u lay f [] v) form.claims) n3 K3 n4 K4) where
       abbrev All-of : V → Type 0
-      All-of v = ((AreAlike u lay v × AreChangedTerms u lay v) × AreChangedFacts u lay v) × All (λ f. IsMetBy u lay f [] v) form.claims
+      All-of v = IsEqualityBy u lay v × All (λ f. IsMetBy u lay f [] v) form.claims
 
       together : Adds lay.base [] All-of lay.base [] n4 K4
-      together =
-          adds_and lay.base [] (λ v. (AreAlike u lay v × AreChangedTerms u lay v) × AreChangedFacts u lay v) (λ v. All (λ f. IsMetBy u lay f [] v) form.claims) lay.base [] n3 K3 n4 K4 (none-within lay.base)
-          (adds_and lay.base [] (λ v. AreAlike u lay v × AreChangedTerms u lay v) (AreChangedFacts u lay) lay.base [] n2 K2 n3 K3 (none-within lay.base)
-          (adds_and lay.base [] (AreAlike u lay) (AreChangedTerms u lay) lay.base [] n1 K1 n2 K2 (none-within lay.base) alike terms) facts) claims
+      together = adds_and lay.base [] (IsEqualityBy u lay) (λ v. All (λ f. IsMetBy u lay f [] v) form.claims) lay.base [] n3 K3 n4 K4 (none-within lay.base) axioms claims
 
       pub grown : lay.base ≤ n4
       grown = together.grows
 
       pub inside : AreWithin n4 K4
       inside = together.after
-
-      met-from : (v : V) → All-of v → AreMetBy sig form u v
-      met-from v h = subst (λ (l : Layout). AreMet u.terms (slot u l) (same_by u l v) (fact_by u l v) l.sig l.copies form.claims) same
-          (record { equality = equality-from u lay (laid-out small) v h.0.0.0 h.0.0.1 h.0.1; instances = h.1 })
-
-      met-to : (v : V) → AreMetBy sig form u v → All-of v
-      met-to v m =
-          let m' = subst (λ (l : Layout). AreMet u.terms (slot u l) (same_by u l v) (fact_by u l v) l.sig l.copies form.claims) (sym same) m in
-          let r = laid-out small in
-          (((alike-of u lay r v own-universe m'.equality, terms-of u lay r v own-universe m'.equality), facts-of u lay r v own-universe m'.equality), m'.instances)
 
       none-met : (v : V) → MeetsClause v [] ⊎ All-of v → All-of v
       none-met v (inl m) = absurd (omega (arith, m.2))
@@ -131,13 +126,18 @@ module _ (sig : Sig) (form : SkolemForm) (u : Universe) (can : CanGround sig for
         within = together.after;
         variables = len;
         base = subst (λ (l : Layout). l.base ≤ n4) same together.grows;
-        sound = λ v m. met-from v (none-met v (together.sound v m).1);
+        sound = λ v m. let h = none-met v (together.sound v m).1 in met-from v h.0 h.1;
         complete = λ a h. let r = together.complete a a (λ k lt. refl) (All-nil (MeetsClause a)) (inr (met-to a h)) in (r.0, r.2);
       }
 
   places : (f c : ℕ) (args : List ℕ) → IsSymbol (whole sig form) form.copies false f c → AreOf u.terms args (symbol_at (whole sig form) f).args →
       IsTermOf (whole sig form) form.copies u.terms f c args (slot u (form_layout sig form u) f c args)
   places = place-is (whole sig form) form.copies u can.universe can.arranged few_terms (term_counts-length (whole sig form) form.copies)
+
+  -- a world that meets the form gives values of the atoms
+  pub world-atoms : (w : World) → MeetsForm sig form w → (v : V) × AreMetBy sig form u v
+  world-atoms = atom-values sig form u can.signature can.skolem can.universe places (form_atoms sig form u)
+      (subst (IsListed u (form_layout sig form u)) (append-nil (form_atoms sig form u)) (listed S form.copies u can.universe can.arranged []))
 
   pub from-world : (g : Grounded) → IsGrounded sig form u g → (w : World) → MeetsForm sig form w → (v : V) × MeetsAll v g.cnf.clauses
   from-world g grounded = world-values sig form u can.signature can.skolem can.universe places g grounded

@@ -25,4 +25,6 @@ pub mod StartSteps
 pub mod ArgumentLemmas
 pub mod ReadLemmas
 pub mod EqualityLemmas
+pub mod AxiomsSaid
 pub mod GroundLemmas
+pub mod GroundworkLemmas

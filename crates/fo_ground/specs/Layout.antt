@@ -11,7 +11,7 @@ use Rattle.fo_terms.specs.Arranged.{offsets}
 use Rattle.fo_terms.specs.Universe.{IsU32, IsOf, AreOf, sort_at, IsTermOf}
 use Rattle.prop_core.specs.declared.lit.Lit.{Lit}
 use Rattle.fo_ground.specs.declared.layout.Layout.{Layout}
-use Rattle.fo_ground.specs.Instances.{IsMet}
+use Rattle.fo_ground.specs.Instances.{IsMet, IsEquality}
 
 -- a literal: an atom, or the negation of one
 abbrev pub IsLiteral : Formula → Type 0
@@ -49,6 +49,10 @@ module _ (u : Universe) (lay : Layout) where
 
   abbrev pub fact_by : (ℕ → Bool) → ℕ → ℕ → List ℕ → Bool
   fact_by v r c ps = v (slot r c ps)
+
+  -- under these values the axioms of equality hold
+  abbrev pub IsEqualityBy : (ℕ → Bool) → Type 0
+  IsEqualityBy v = IsEquality u.terms slot (same_by v) (fact_by v) lay.sig lay.copies
 
   -- these values meet the instance of a formula
   abbrev pub IsMetBy : Formula → List ℕ → (ℕ → Bool) → Type 0

@@ -5,5 +5,6 @@ pub mod Emits
 pub mod Layout
 pub mod Numbers
 pub mod Grounds
+pub mod Groundworks
 pub mod Axioms
 pub mod Reading

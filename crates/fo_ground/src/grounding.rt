@@ -1,9 +1,13 @@
-ghost use Rattle.std.specs.Prelude.{◌≡◌, ◌≤◌, ◌++◌, ℕ, Bool, length, replicate, IfOk, OnOk};
+ghost use Rattle.std.specs.Prelude.{◌≡◌, ◌≤◌, ◌++◌, ℕ, Bool, [], length, replicate, IfOk, OnOk};
+ghost use Rattle.std.specs.List.{All};
 ghost use Rattle.fo_core.specs.declared.world.World.{World};
 ghost use Rattle.fo_norm.specs.Forms.{MeetsForm};
 ghost use Rattle.prop_core.specs.Formula.{AreWithin, MeetsAll};
+ghost use Rattle.fo_terms.specs.Universe.{IsUniverse};
 ghost use Rattle.fo_ground.specs.declared.grounded.Atom.TheVariants.{Helper};
-ghost use Rattle.fo_ground.specs.Grounds.{CanGround, IsGrounded};
+ghost use Rattle.fo_ground.specs.Emits.{Adds};
+ghost use Rattle.fo_ground.specs.Grounds.{CanGround, IsGrounded, IsListed, IsShaped};
+ghost use Rattle.fo_ground.specs.Layout.{IsEqualityBy, IsLaidOut};
 
 use crate::atoms::atoms;
 use crate::axioms::{add_claims, add_equalities};
@@ -11,6 +15,7 @@ use crate::congruence::{add_functions, add_relations};
 use crate::emit::Builder;
 use crate::grounded::{Atom, Grounded};
 use crate::laying::lay_out;
+use crate::layout::Layout;
 use fo_core::{Seq, Sig};
 use fo_norm::SkolemForm;
 use fo_terms::Universe;
@@ -30,6 +35,30 @@ fn push_helpers(atoms: &mut Vec<Atom>, vars: u32) -> Result<(), AllocError>
     Ok(())
 }
 
+/// Adds the axioms of equality over the layout's atoms: it is reflexive and transitive, and functions
+/// and relations respect it.
+pub fn add_axioms(
+    alloc: Global,
+    lay: &Layout,
+    u: &Universe,
+    atoms: &[Atom],
+    into: &mut Builder,
+) -> Result<(), AllocError>
+    requires ready { IsLaidOut u.now lay.now }
+    requires universe { IsUniverse lay.now.sig lay.now.copies u.now.terms }
+    requires listed { IsListed u.now lay.now atoms.now }
+    requires shaped { All (IsShaped lay.now.sig lay.now.copies u.now) atoms.now }
+    requires long { length atoms.now ≡ lay.now.base }
+    requires over { lay.now.base ≤ into.old.vars }
+    requires within { AreWithin into.old.vars into.old.clauses }
+    ensures { OnOk result (Adds lay.now.base [] (IsEqualityBy u.now lay.now) into.old.vars into.old.clauses into.new.vars into.new.clauses) }
+{
+    add_equalities(alloc, lay, u, into)?;
+    add_functions(alloc, lay, u, into)?;
+    add_relations(alloc, lay, u, atoms, into)?;
+    Ok(())
+}
+
 /// The clauses of a Skolem form over its ground terms.
 fn grounded(
     alloc: Global,
@@ -46,9 +75,7 @@ fn grounded(
         vars: lay.base,
         clauses: Seq::new(alloc),
     };
-    add_equalities(alloc, &lay, u, &mut into)?;
-    add_functions(alloc, &lay, u, &mut into)?;
-    add_relations(alloc, &lay, u, atoms.as_slice(), &mut into)?;
+    add_axioms(alloc, &lay, u, atoms.as_slice(), &mut into)?;
     add_claims(alloc, &lay, u, form.claims.as_slice(), &mut into)?;
     let Builder { vars, clauses } = into;
     push_helpers(&mut atoms, vars)?;

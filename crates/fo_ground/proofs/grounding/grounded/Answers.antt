@@ -11,14 +11,8 @@ use Rattle.fo_ground.proofs.grounding.grounded.Goals as goal
 pub atoms-requires-clause-ready : goal.atoms-requires-clause-ready
 atoms-requires-clause-ready c = laid-out c.args.sig.now c.args.form.now c.args.u.now c.requires c.in_ok-lay.lay c.in_ok-lay.ensures.layout c.in_ok-lay.ensures.small
 
-pub add_equalities-requires-clause-ready : goal.add_equalities-requires-clause-ready
-add_equalities-requires-clause-ready c = laid-out c.args.sig.now c.args.form.now c.args.u.now c.requires c.in_ok-lay.lay c.in_ok-lay.ensures.layout c.in_ok-lay.ensures.small
-
-pub add_functions-requires-clause-ready : goal.add_functions-requires-clause-ready
-add_functions-requires-clause-ready c = laid-out c.args.sig.now c.args.form.now c.args.u.now c.requires c.in_ok-lay.lay c.in_ok-lay.ensures.layout c.in_ok-lay.ensures.small
-
-pub add_relations-requires-clause-ready : goal.add_relations-requires-clause-ready
-add_relations-requires-clause-ready c = laid-out c.args.sig.now c.args.form.now c.args.u.now c.requires c.in_ok-lay.lay c.in_ok-lay.ensures.layout c.in_ok-lay.ensures.small
+pub add_axioms-requires-clause-ready : goal.add_axioms-requires-clause-ready
+add_axioms-requires-clause-ready c = laid-out c.args.sig.now c.args.form.now c.args.u.now c.requires c.in_ok-lay.lay c.in_ok-lay.ensures.layout c.in_ok-lay.ensures.small
 
 pub add_claims-requires-clause-ready : goal.add_claims-requires-clause-ready
 add_claims-requires-clause-ready c = laid-out c.args.sig.now c.args.form.now c.args.u.now c.requires c.in_ok-lay.lay c.in_ok-lay.ensures.layout c.in_ok-lay.ensures.small
@@ -26,13 +20,13 @@ add_claims-requires-clause-ready c = laid-out c.args.sig.now c.args.form.now c.a
 pub atoms-requires-clause-sig : goal.atoms-requires-clause-sig
 atoms-requires-clause-sig c = own-signature c.args.sig.now c.args.form.now c.args.u.now c.requires c.in_ok-lay.lay c.in_ok-lay.ensures.layout
 
-pub add_relations-requires-clause-listed : goal.add_relations-requires-clause-listed
-add_relations-requires-clause-listed c =
+pub add_axioms-requires-clause-listed : goal.add_axioms-requires-clause-listed
+add_axioms-requires-clause-listed c =
     let lay = c.in_ok-lay.lay in
     rw (c.as_slice.ensures.value, c.in_ok-atoms.ensures) (subst (IsListed c.args.u.now c.in_ok-lay.lay) (append-nil (atoms_of lay.sig lay.copies c.args.u.now)) (own-list c.args.sig.now c.args.form.now c.args.u.now c.requires c.in_ok-lay.lay c.in_ok-lay.ensures.layout []))
 
-pub add_relations-requires-clause-shaped : goal.add_relations-requires-clause-shaped
-add_relations-requires-clause-shaped c = rw (c.as_slice.ensures.value, c.in_ok-atoms.ensures) (own-shapes c.args.sig.now c.args.form.now c.args.u.now c.requires c.in_ok-lay.lay c.in_ok-lay.ensures.layout)
+pub add_axioms-requires-clause-shaped : goal.add_axioms-requires-clause-shaped
+add_axioms-requires-clause-shaped c = rw (c.as_slice.ensures.value, c.in_ok-atoms.ensures) (own-shapes c.args.sig.now c.args.form.now c.args.u.now c.requires c.in_ok-lay.lay c.in_ok-lay.ensures.layout)
 
 pub add_claims-requires-clause-sorted : goal.add_claims-requires-clause-sorted
 add_claims-requires-clause-sorted c = rw c.as_slice-2.ensures (own-claims c.args.sig.now c.args.form.now c.args.u.now c.requires c.in_ok-lay.lay c.in_ok-lay.ensures.layout)
@@ -45,8 +39,7 @@ returns c =
     let u = c.args.u.now in
     let filled : c.push_helpers.new.atoms.items ≡ atoms_of lay.sig lay.copies u ++ replicate n Helper = helpers.1 ∙ ap (λ xs. xs ++ replicate n Helper) c.in_ok-atoms.ensures in
     let len : length (atoms_of lay.sig lay.copies u ++ replicate n Helper) ≡ c.add_claims.new.into.vars = ap length (sym filled) ∙ c.in_ok-push_helpers.ensures.length in
-    let alike = rw c.new.ensures at c.in_ok-add_equalities.ensures in
+    let axioms = rw c.new.ensures at c.in_ok-add_axioms.ensures in
     let claims = rw c.as_slice-2.ensures at c.in_ok-add_claims.ensures in
-    let all = grounds c.args.sig.now c.args.form.now u c.requires lay c.in_ok-lay.ensures.layout c.in_ok-lay.ensures.small c.add_equalities.new.into.vars c.add_equalities.new.into.clauses c.add_functions.new.into.vars c.add_functions.new.into.clauses
-    c.add_relations.new.into.vars c.add_relations.new.into.clauses c.add_claims.new.into.vars c.add_claims.new.into.clauses alike c.in_ok-add_functions.ensures c.in_ok-add_relations.ensures claims n len in
+    let all = grounds c.args.sig.now c.args.form.now u c.requires lay c.in_ok-lay.ensures.layout c.in_ok-lay.ensures.small c.add_axioms.new.into.vars c.add_axioms.new.into.clauses c.add_claims.new.into.vars c.add_claims.new.into.clauses axioms claims n len in
     subst (λ (xs : List Atom). IsGrounded c.args.sig.now c.args.form.now u (record { cnf = record { vars = c.add_claims.new.into.vars; clauses = c.add_claims.new.into.clauses }; atoms = xs })) (sym (c.from_vec.ensures ∙ filled)) all

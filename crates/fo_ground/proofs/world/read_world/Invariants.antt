@@ -2,7 +2,7 @@ use Rattle.std.proofs.Common.{◌≡◌, map, true}
 use Rattle.std.specs.List.{range_with_len}
 use Rattle.prop_core.specs.Formula.{value_of}
 use Rattle.fo_ground.specs.Reading.{tables_by}
-use Rattle.fo_ground.proofs.world.world_of.Given as goal
+use Rattle.fo_ground.proofs.world.read_world.Given as goal
 
 -- the copies so far have their tables
 abbrev pub invariant-each : goal.invariant-each
