@@ -9,18 +9,20 @@ ghost use Rattle.fo_norm.specs.Forms.{whole, IsForm, MeetsForm};
 ghost use Rattle.fo_terms.specs.FormWeight.{form_weight};
 ghost use Rattle.fo_solve.specs.Solving.{form_counts};
 
+use crate::context::Context;
+use crate::contexts::Contexts;
 use fo_core::{Found, Order, Query, Seq, Sig, System, World};
-use fo_ground::{ground, world_of};
+use fo_ground::with_skolems;
 use fo_norm::{SkolemForm, normal};
-use fo_terms::{counts, universe_from, weight};
-use prop_cdcl::solve;
-use prop_core::Answer;
+use fo_terms::{counts, weight};
 use std::alloc::{AllocError, Global};
 
 /// A world that meets the form, if there is one. `counts` are the numbers of ground terms of the
-/// sorts, with which the form has to be light enough to be grounded.
+/// sorts, with which the form has to be light enough to be grounded. What the answer rests on doesn't
+/// depend on the contexts, which only save work.
 fn search(
     alloc: Global,
+    contexts: &mut Contexts,
     sig: &Sig,
     form: &SkolemForm,
     order: &Order,
@@ -33,24 +35,21 @@ fn search(
     requires light { form_weight sig.now form.now (form_counts sig.now form.now) ≤ MOST_WEIGHT }
     ensures { IfOk result (λ o. MatchOption o ((w : World) → ¬ MeetsForm sig.now form.now w) (MeetsForm sig.now form.now)) }
 {
-    let terms = universe_from(alloc, sig, form, order, counts)?;
-    let grounded = ground(alloc, sig, form, &terms)?;
-    match solve(alloc, &grounded.cnf)? {
-        Answer::Sat(values) => Ok(Some(world_of(
-            alloc,
-            sig,
-            form,
-            &grounded,
-            &terms,
-            values.as_slice(),
-        )?)),
-        Answer::Unsat(_) => Ok(None),
-    }
+    let symbols = with_skolems(alloc, sig, form)?;
+    let context = match contexts.take(&symbols, form.copies) {
+        Some(context) => context,
+        None => Context::new(alloc, sig, form, order, counts)?,
+    };
+    let (world, context) = context.answer(alloc, sig, form)?;
+    contexts.keep(alloc, context)?;
+    Ok(world)
 }
 
-/// The answer to a query by a finder with this limit.
-pub fn answer(
+/// The answer to a query by a finder with this limit, which keeps these contexts. After an error,
+/// which is out of memory, the query's own context is gone.
+pub fn answer_within(
     alloc: Global,
+    contexts: &mut Contexts,
     sys: &System,
     order: &Order,
     q: &Query,
@@ -66,8 +65,24 @@ pub fn answer(
     if weight > limit {
         return Ok(Found::Over(weight));
     }
-    Ok(match search(alloc, &sys.sig, &form, order, counts)? {
+    Ok(match search(alloc, contexts, &sys.sig, &form, order, counts)? {
         Some(world) => Found::Model(world),
         None => Found::Nothing,
     })
+}
+
+/// The answer to a query by a finder with this limit that keeps nothing.
+pub fn answer(
+    alloc: Global,
+    sys: &System,
+    order: &Order,
+    q: &Query,
+    limit: u64,
+) -> Result<Found, AllocError>
+    requires search { CanSearch sys.now order.now q.now }
+    requires light { limit ≤ MOST_WEIGHT }
+    ensures { IfOk result (IsAnswer sys.now.sig q.now limit) }
+{
+    let mut contexts = Contexts::new();
+    answer_within(alloc, &mut contexts, sys, order, q, limit)
 }

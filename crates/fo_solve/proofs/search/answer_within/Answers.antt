@@ -1,8 +1,8 @@
 use Rattle.std.proofs.Common.{subst, ◌≤◌, ◌∙◌, arith}
 use Rattle.fo_terms.proofs.WeightLemmas.{weight-query}
 use Rattle.fo_solve.proofs.Lemmas.{form_rises}
-use Rattle.fo_solve.proofs.search.answer.Goals.{in-Some, in-None}
-use Rattle.fo_solve.proofs.search.answer.Goals as goal
+use Rattle.fo_solve.proofs.search.answer_within.Goals.{in-Some, in-None}
+use Rattle.fo_solve.proofs.search.answer_within.Goals as goal
 
 pub counts-requires-clause-order : goal.counts-requires-clause-order
 counts-requires-clause-order c = form_rises c.args.sys.now.sig c.args.q.now c.in_ok-form.form c.args.order.now.numbers c.in_ok-form.ensures.edges c.requires.search.rises
