@@ -1,5 +1,5 @@
 -- The clauses of equality, functions and relations together say that the axioms of equality hold.
-use Rattle.std.proofs.Common.{◌≡◌, ℕ, Bool, List, []}
+use Rattle.std.proofs.Common.{ℕ, List, []}
 use Rattle.prop_core.specs.declared.lit.Lit.{Lit}
 use Rattle.fo_terms.specs.declared.terms.Universe.{Universe}
 use Rattle.fo_terms.specs.Universe.{IsUniverse}

@@ -1,5 +1,5 @@
 -- What holds of a groundwork, whichever form it is asked for.
-use Rattle.std.proofs.Common.{◌≡◌, ℕ, Bool, ◌≤◌, List, [], sym, ap, subst, ◌∙◌}
+use Rattle.std.proofs.Common.{◌≡◌, ℕ, Bool, ◌≤◌, [], sym, ap, subst, ◌∙◌}
 use Rattle.fo_core.specs.declared.formula.Formula.{Formula}
 use Rattle.fo_core.specs.declared.query.TheConstants.{MOST_WEIGHT}
 use Rattle.fo_core.specs.declared.signature.Sig.{Sig}

@@ -51,7 +51,8 @@ impl Groundwork {
     /// Whether it is one for these symbols, those of a signature and Skolem symbols behind them, and
     /// for this number of copies. It takes no memory.
     pub fn is_for(&self, symbols: &Sig, copies: u32) -> bool
-        ensures { IsTrue result ↔ ((self.now.layout.sig ≡ symbols.now) × (self.now.layout.copies ≡ copies)) }
+        ensures { IsTrue result ↔
+            (self.now.layout.sig ≡ symbols.now) × (self.now.layout.copies ≡ copies) }
     {
         self.layout.copies == copies && self.layout.sig.same(symbols)
     }
@@ -136,7 +137,9 @@ impl Groundwork {
         requires serves { Serves sig.now form.now self.now }
         requires sig { IsSig sig.now }
         requires form { IsForm sig.now form.now }
-        requires light { form_weight sig.now form.now (term_counts (whole sig.now form.now) form.now.copies) ≤ MOST_WEIGHT }
+        requires light {
+            let counts = term_counts (whole sig.now form.now) form.now.copies in
+            form_weight sig.now form.now counts ≤ MOST_WEIGHT }
         requires values { self.now.layout.base ≤ length values.now }
         requires met { HoldBy self.now form.now.claims (value_of values.now) }
         ensures meets { IfOk result (λ w. MeetsForm sig.now form.now w) }

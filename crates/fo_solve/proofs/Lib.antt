@@ -1,3 +1,4 @@
+pub mod Crossing
 mod Lemmas
 mod NextLemmas
 mod Switching

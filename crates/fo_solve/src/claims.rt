@@ -5,7 +5,7 @@ ghost use Rattle.fo_core.specs.Sorted.{IsFormula};
 ghost use Rattle.fo_norm.specs.Forms.{IsNormal};
 ghost use Rattle.fo_ground.specs.Groundworks.{IsGroundwork};
 ghost use Rattle.prop_core.specs.Formula.{AreWithin};
-ghost use Rattle.fo_solve.specs.Contexts.{AreSwitched, IsOn, IsSwitch, KeepsAll};
+ghost use Rattle.fo_solve.specs.Contexts.{AreClaims, IsOn, IsSwitch, KeepsAll};
 
 use fo_core::Formula;
 use fo_ground::Groundwork;
@@ -59,8 +59,7 @@ impl Claims {
     /// The axioms of equality, and no claims.
     pub fn new(alloc: Global, ground: &Groundwork) -> Result<Claims, AllocError>
         requires { IsGroundwork ground.now }
-        ensures { IfOk result (λ c.
-            AreSwitched ground.now c.kept.items c.solver.vars c.solver.clauses) }
+        ensures { IfOk result (AreClaims ground.now) }
     {
         let axioms = ground.axioms(alloc)?;
         let solver = Solver::new(alloc, &axioms)?;
@@ -81,8 +80,8 @@ impl Claims {
         requires ground { IsGroundwork ground.now }
         requires sorted { IsFormula ground.now.layout.sig ground.now.layout.copies claim.now [] }
         requires normal { IsNormal claim.now }
-        requires switched { AreSwitched ground.now self.old.kept.items self.old.solver.vars self.old.solver.clauses }
-        ensures switched { OnOk result (AreSwitched ground.now self.new.kept.items self.new.solver.vars self.new.solver.clauses) }
+        requires switched { AreClaims ground.now self.old }
+        ensures switched { OnOk result (AreClaims ground.now self.new) }
         ensures keeps { OnOk result (KeepsAll self.old.kept.items self.new.kept.items) }
         ensures switch { IfOk result (IsSwitch self.new.kept.items claim.now) }
     {
@@ -109,8 +108,8 @@ impl Claims {
         requires ground { IsGroundwork ground.now }
         requires sorted { IsFormula ground.now.layout.sig ground.now.layout.copies claim.now [] }
         requires normal { IsNormal claim.now }
-        requires switched { AreSwitched ground.now self.old.kept.items self.old.solver.vars self.old.solver.clauses }
-        ensures switched { OnOk result (AreSwitched ground.now self.new.kept.items self.new.solver.vars self.new.solver.clauses) }
+        requires switched { AreClaims ground.now self.old }
+        ensures switched { OnOk result (AreClaims ground.now self.new) }
         ensures keeps { OnOk result (KeepsAll self.old.kept.items self.new.kept.items) }
         ensures switch { IfOk result (IsSwitch self.new.kept.items claim.now) }
     {
@@ -128,11 +127,13 @@ impl Claims {
         claims: &[Formula],
     ) -> Result<Vec<Lit>, AllocError>
         requires ground { IsGroundwork ground.now }
-        requires sorted { All (λ f. IsFormula ground.now.layout.sig ground.now.layout.copies f []) claims.now }
+        requires sorted { All (λ f.
+            IsFormula ground.now.layout.sig ground.now.layout.copies f []) claims.now }
         requires normal { All IsNormal claims.now }
-        requires switched { AreSwitched ground.now self.old.kept.items self.old.solver.vars self.old.solver.clauses }
-        ensures switched { OnOk result (AreSwitched ground.now self.new.kept.items self.new.solver.vars self.new.solver.clauses) }
-        ensures on { IfOk result (λ lits. AllZip (IsOn self.new.kept.items) claims.now lits.items) }
+        requires switched { AreClaims ground.now self.old }
+        ensures switched { OnOk result (AreClaims ground.now self.new) }
+        ensures on { IfOk result (λ lits.
+            AllZip (IsOn self.new.kept.items) claims.now lits.items) }
     {
         let mut switches = Vec::with_capacity(alloc, claims.len())?;
         'each: for claim in claims {

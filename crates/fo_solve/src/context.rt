@@ -1,15 +1,14 @@
 //! What queries over the same symbols share.
-ghost use Rattle.std.specs.Prelude.{◌≡◌, ◌≤◌, ◌↔◌, map, IsTrue, IfOk, OnOk, MatchOption};
+ghost use Rattle.std.specs.Prelude.{◌≡◌, ◌≤◌, ◌↔◌, map, IsTrue, IfOk, OnOk};
 ghost use Rattle.fo_core.specs.declared.query.TheConstants.{MOST_WEIGHT};
-ghost use Rattle.fo_core.specs.declared.world.World.{World};
 ghost use Rattle.fo_core.specs.QueryWeight.{cut};
 ghost use Rattle.fo_core.specs.SortGraph.{FunctionEdge, Rises};
 ghost use Rattle.fo_core.specs.Sorted.{IsSig};
-ghost use Rattle.fo_norm.specs.Forms.{whole, IsForm, MeetsForm};
+ghost use Rattle.fo_norm.specs.Forms.{whole, IsForm};
 ghost use Rattle.fo_terms.specs.FormWeight.{form_weight};
 ghost use Rattle.fo_ground.specs.Groundworks.{IsGroundwork, Serves};
-ghost use Rattle.fo_solve.specs.Contexts.{AreSwitched, scope_of};
-ghost use Rattle.fo_solve.specs.Solving.{form_counts};
+ghost use Rattle.fo_solve.specs.Contexts.{AreClaims, scope_of};
+ghost use Rattle.fo_solve.specs.Solving.{form_counts, IsFound};
 
 use crate::claims::Claims;
 use fo_core::{Order, Seq, Sig, World};
@@ -38,14 +37,13 @@ pub struct Context {
 
 impl Model for Context {
     ghost use Rattle.fo_ground.specs.Groundworks.{IsGroundwork};
-    ghost use Rattle.fo_solve.specs.Contexts.{AreSwitched, Scope};
+    ghost use Rattle.fo_solve.specs.Contexts.{AreClaims, Scope};
 
     ghost Value = { Scope };
 
     ghost view = { λ c. record { symbols = c.ground.layout.sig; copies = c.ground.layout.copies } };
 
-    ghost invariant = { λ c. IsGroundwork c.ground ×
-        AreSwitched c.ground c.claims.kept.items c.claims.solver.vars c.claims.solver.clauses };
+    ghost invariant = { λ c. IsGroundwork c.ground × AreClaims c.ground c.claims };
 }
 
 /// A world that meets the form, if there is one.
@@ -58,12 +56,13 @@ fn world(
 ) -> Result<Option<World>, AllocError>
     requires sig { IsSig sig.now }
     requires form { IsForm sig.now form.now }
-    requires light { form_weight sig.now form.now (form_counts sig.now form.now) ≤ MOST_WEIGHT }
+    requires light {
+            form_weight sig.now form.now (form_counts sig.now form.now) ≤ MOST_WEIGHT }
     requires ground { IsGroundwork ground.now }
     requires serves { Serves sig.now form.now ground.now }
-    requires switched { AreSwitched ground.now claims.old.kept.items claims.old.solver.vars claims.old.solver.clauses }
-    ensures switched { OnOk result (AreSwitched ground.now claims.new.kept.items claims.new.solver.vars claims.new.solver.clauses) }
-    ensures world { IfOk result (λ o. MatchOption o ((w : World) → ¬ MeetsForm sig.now form.now w) (MeetsForm sig.now form.now)) }
+    requires switched { AreClaims ground.now claims.old }
+    ensures switched { OnOk result (AreClaims ground.now claims.new) }
+    ensures world { IfOk result (IsFound sig.now form.now) }
 {
     let switches = claims.switch_on(alloc, ground, form.claims.as_slice())?;
     match claims.solver.solve_under(alloc, switches.as_slice())? {
@@ -84,9 +83,11 @@ impl Context {
     ) -> Result<Context, AllocError>
         requires sig { IsSig sig.now }
         requires form { IsForm sig.now form.now }
-        requires rises { Rises (FunctionEdge (whole sig.now form.now)) sig.now.sorts order.now.numbers }
+        requires rises {
+            Rises (FunctionEdge (whole sig.now form.now)) sig.now.sorts order.now.numbers }
         requires counts { counts ≡ map cut (form_counts sig.now form.now) }
-        requires light { form_weight sig.now form.now (form_counts sig.now form.now) ≤ MOST_WEIGHT }
+        requires light {
+            form_weight sig.now form.now (form_counts sig.now form.now) ≤ MOST_WEIGHT }
         ensures { IfOk result (λ c. c ≡ scope_of sig.now form.now) }
     {
         let universe = universe_from(alloc, sig, form, order, counts)?;
@@ -122,9 +123,10 @@ impl Context {
     ) -> Result<(Option<World>, Context), AllocError>
         requires sig { IsSig sig.now }
         requires form { IsForm sig.now form.now }
-        requires light { form_weight sig.now form.now (form_counts sig.now form.now) ≤ MOST_WEIGHT }
+        requires light {
+            form_weight sig.now form.now (form_counts sig.now form.now) ≤ MOST_WEIGHT }
         requires scope { self ≡ scope_of sig.now form.now }
-        ensures { IfOk result (λ a. MatchOption a.0 ((w : World) → ¬ MeetsForm sig.now form.now w) (MeetsForm sig.now form.now)) }
+        ensures { IfOk result (λ a. IsFound sig.now form.now a.0) }
     {
         let Context {
             ground,

@@ -1,13 +1,12 @@
-ghost use Rattle.std.specs.Prelude.{◌≡◌, ◌≤◌, map, IfOk, MatchOption};
+ghost use Rattle.std.specs.Prelude.{◌≡◌, ◌≤◌, map, IfOk};
 ghost use Rattle.fo_core.specs.declared.query.TheConstants.{MOST_WEIGHT};
-ghost use Rattle.fo_core.specs.declared.world.World.{World};
 ghost use Rattle.fo_core.specs.Finds.{CanSearch, IsAnswer};
 ghost use Rattle.fo_core.specs.QueryWeight.{cut};
 ghost use Rattle.fo_core.specs.SortGraph.{FunctionEdge, Rises};
 ghost use Rattle.fo_core.specs.Sorted.{IsSig};
-ghost use Rattle.fo_norm.specs.Forms.{whole, IsForm, MeetsForm};
+ghost use Rattle.fo_norm.specs.Forms.{whole, IsForm};
 ghost use Rattle.fo_terms.specs.FormWeight.{form_weight};
-ghost use Rattle.fo_solve.specs.Solving.{form_counts};
+ghost use Rattle.fo_solve.specs.Solving.{form_counts, IsFound};
 
 use crate::context::Context;
 use crate::contexts::Contexts;
@@ -30,10 +29,11 @@ fn search(
 ) -> Result<Option<World>, AllocError>
     requires sig { IsSig sig.now }
     requires form { IsForm sig.now form.now }
-    requires rises { Rises (FunctionEdge (whole sig.now form.now)) sig.now.sorts order.now.numbers }
+    requires rises {
+        Rises (FunctionEdge (whole sig.now form.now)) sig.now.sorts order.now.numbers }
     requires counts { counts ≡ map cut (form_counts sig.now form.now) }
     requires light { form_weight sig.now form.now (form_counts sig.now form.now) ≤ MOST_WEIGHT }
-    ensures { IfOk result (λ o. MatchOption o ((w : World) → ¬ MeetsForm sig.now form.now w) (MeetsForm sig.now form.now)) }
+    ensures { IfOk result (IsFound sig.now form.now) }
 {
     let symbols = with_skolems(alloc, sig, form)?;
     let context = match contexts.take(&symbols, form.copies) {

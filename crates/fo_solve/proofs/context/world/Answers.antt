@@ -1,10 +1,9 @@
-use Rattle.std.proofs.Common.{[], List, ◌<◌, ℕ, Bool, sym, subst}
+use Rattle.std.proofs.Common.{[], List, Bool, sym, subst}
 use Rattle.std.specs.List.{All}
 use Rattle.fo_core.specs.declared.formula.Formula.{Formula}
 use Rattle.fo_core.specs.Sorted.{IsFormula}
 use Rattle.fo_ground.specs.Groundworks.{HoldBy}
 use Rattle.fo_ground.proofs.GroundworkLemmas.{held-from-world}
-use Rattle.prop_core.specs.declared.lit.Lit.{Lit}
 use Rattle.prop_core.specs.Formula.{IsWithin, value_of}
 use Rattle.prop_cdcl.specs.Questions.{AreTrue, HaveNoValuesUnder}
 use Rattle.fo_solve.proofs.Switching.{held, none-held, served-claims, switches-within}

@@ -1,4 +1,4 @@
-use Rattle.std.proofs.Common.{◌≡◌, ◌∙◌, ◌+◌, ◌-◌, ◌++◌, ◌∷◌, [], ℕ, List, sym, ap, subst, arith}
+use Rattle.std.proofs.Common.{◌≡◌, ◌∙◌, ◌++◌, ◌∷◌, [], ℕ, List, sym, ap, subst, arith}
 use Rattle.fo_core.specs.declared.formula.Formula.{Formula}
 use Rattle.prop_core.specs.declared.lit.Lit.{Lit}
 use Rattle.prop_cdcl.specs.Questions.{Known}
