@@ -85,12 +85,7 @@ impl Groundwork {
     /// The claim has to be one of a form over the groundwork's symbols and copies, and the switch a
     /// variable after those of the atoms. The one error is out of memory; more variables than have
     /// numbers of 32 bits are reported so too.
-    pub fn instances(
-        &self,
-        alloc: Global,
-        claim: &Formula,
-        switch: u32,
-    ) -> Result<Cnf, AllocError>
+    pub fn instances(&self, alloc: Global, claim: &Formula, switch: u32) -> Result<Cnf, AllocError>
         requires ground { IsGroundwork self.now }
         requires sorted { IsFormula self.now.layout.sig self.now.layout.copies claim.now [] }
         requires normal { IsNormal claim.now }
@@ -137,8 +132,7 @@ impl Groundwork {
         requires serves { Serves sig.now form.now self.now }
         requires sig { IsSig sig.now }
         requires form { IsForm sig.now form.now }
-        requires light {
-            let counts = term_counts (whole sig.now form.now) form.now.copies in
+        requires light { let counts = term_counts (whole sig.now form.now) form.now.copies in
             form_weight sig.now form.now counts ≤ MOST_WEIGHT }
         requires values { self.now.layout.base ≤ length values.now }
         requires met { HoldBy self.now form.now.claims (value_of values.now) }

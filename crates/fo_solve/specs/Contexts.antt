@@ -49,7 +49,7 @@ pub record AreSwitched (g : Groundwork) (kept : List Switched) (vars : ℕ)
       All (λ s. v s.switch ≡ true → IsMetBy g.universe g.layout s.claim [] v) kept
   pub complete : (a : ℕ → Bool) → IsEqualityBy g.universe g.layout a →
       ¬ ((v : ℕ → Bool) → Agrees g.layout.base a v → MeetsAll v clauses →
-        ¬ All (λ s. IsMetBy g.universe g.layout s.claim [] a → v s.switch ≡ true) kept)
+      ¬ All (λ s. IsMetBy g.universe g.layout s.claim [] a → v s.switch ≡ true) kept)
 
 -- so do the clauses that a search was given say of the claims that are kept beside it
 abbrev pub AreClaims : Groundwork → Claims → Type 0

@@ -56,8 +56,7 @@ fn world(
 ) -> Result<Option<World>, AllocError>
     requires sig { IsSig sig.now }
     requires form { IsForm sig.now form.now }
-    requires light {
-            form_weight sig.now form.now (form_counts sig.now form.now) ≤ MOST_WEIGHT }
+    requires light { form_weight sig.now form.now (form_counts sig.now form.now) ≤ MOST_WEIGHT }
     requires ground { IsGroundwork ground.now }
     requires serves { Serves sig.now form.now ground.now }
     requires switched { AreClaims ground.now claims.old }
@@ -83,11 +82,9 @@ impl Context {
     ) -> Result<Context, AllocError>
         requires sig { IsSig sig.now }
         requires form { IsForm sig.now form.now }
-        requires rises {
-            Rises (FunctionEdge (whole sig.now form.now)) sig.now.sorts order.now.numbers }
+        requires rises { Rises (FunctionEdge (whole sig.now form.now)) sig.now.sorts order.now.numbers }
         requires counts { counts ≡ map cut (form_counts sig.now form.now) }
-        requires light {
-            form_weight sig.now form.now (form_counts sig.now form.now) ≤ MOST_WEIGHT }
+        requires light { form_weight sig.now form.now (form_counts sig.now form.now) ≤ MOST_WEIGHT }
         ensures { IfOk result (λ c. c ≡ scope_of sig.now form.now) }
     {
         let universe = universe_from(alloc, sig, form, order, counts)?;
@@ -123,8 +120,7 @@ impl Context {
     ) -> Result<(Option<World>, Context), AllocError>
         requires sig { IsSig sig.now }
         requires form { IsForm sig.now form.now }
-        requires light {
-            form_weight sig.now form.now (form_counts sig.now form.now) ≤ MOST_WEIGHT }
+        requires light { form_weight sig.now form.now (form_counts sig.now form.now) ≤ MOST_WEIGHT }
         requires scope { self ≡ scope_of sig.now form.now }
         ensures { IfOk result (λ a. IsFound sig.now form.now a.0) }
     {

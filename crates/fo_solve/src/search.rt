@@ -29,8 +29,7 @@ fn search(
 ) -> Result<Option<World>, AllocError>
     requires sig { IsSig sig.now }
     requires form { IsForm sig.now form.now }
-    requires rises {
-        Rises (FunctionEdge (whole sig.now form.now)) sig.now.sorts order.now.numbers }
+    requires rises { Rises (FunctionEdge (whole sig.now form.now)) sig.now.sorts order.now.numbers }
     requires counts { counts ≡ map cut (form_counts sig.now form.now) }
     requires light { form_weight sig.now form.now (form_counts sig.now form.now) ≤ MOST_WEIGHT }
     ensures { IfOk result (IsFound sig.now form.now) }
@@ -65,10 +64,12 @@ pub fn answer_within(
     if weight > limit {
         return Ok(Found::Over(weight));
     }
-    Ok(match search(alloc, contexts, &sys.sig, &form, order, counts)? {
-        Some(world) => Found::Model(world),
-        None => Found::Nothing,
-    })
+    Ok(
+        match search(alloc, contexts, &sys.sig, &form, order, counts)? {
+            Some(world) => Found::Model(world),
+            None => Found::Nothing,
+        },
+    )
 }
 
 /// The answer to a query by a finder with this limit that keeps nothing.
