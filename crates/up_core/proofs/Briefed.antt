@@ -1,5 +1,5 @@
 -- The brief by the entries is that of what a worker who takes the job is given.
-use Rattle.std.proofs.Common.{◌≡◌, ℕ, zero, suc, ◌-◌, ◌^◌, ◌<◌, Bool, true, false, cond, ◌&&◌, nat_eq, List, [], ◌∷◌, ◌++◌, map, filter, Option, None, Some, slice_get, refl, sym, ap, subst, ◌∙◌, arith, true≢false}
+use Rattle.std.proofs.Common.{◌≡◌, ℕ, zero, suc, ◌-◌, ◌^◌, ◌<◌, Bool, true, false, cond, ◌&&◌, nat_eq, is_none, List, [], ◌∷◌, ◌++◌, map, filter, Option, None, Some, slice_get, refl, sym, ap, subst, ◌∙◌, arith, true≢false}
 use Rattle.std.specs.Prelude.{option_map}
 use Rattle.std.specs.Option.{option_and_then, option_to_list}
 use Rattle.std.specs.Global.{Vec}
@@ -28,8 +28,9 @@ use Rattle.up_core.specs.declared.state.ClauseEntry.{ClauseEntry}
 use Rattle.up_core.specs.declared.state.JobEntry.{JobEntry}
 use Rattle.up_core.specs.declared.state.ObligationEntry.{ObligationEntry}
 use Rattle.up_core.specs.declared.state.State.{State}
-use Rattle.up_core.specs.Briefing.{AreDescribable, avoided, work_brief, look_brief, push_brief, trace_brief, brief_at}
+use Rattle.up_core.specs.Briefing.{AreDescribable, avoided, state_from, work_brief, look_brief, push_brief, trace_brief, brief_at}
 use Rattle.up_core.specs.Choice.{is_open_seed}
+use Rattle.up_core.specs.Places.{is_unfinished}
 use Rattle.up_core.specs.Holding.{IsCore}
 use Rattle.up_core.specs.Listing.{listed}
 use Rattle.up_core.specs.Mirror.{Pairs, IsClauseOf, IsObligationOf, IsMirror, world_of}
@@ -165,3 +166,13 @@ module _ (sys : System) (order : Order) (limits : Limits) (history : Vec Event) 
   has-one w h none =
       let entry = has-entry w h.given here.jobs s.jobs.items core.mirror.jobs h.held in
       none_is_some entry.entry (sym none ∙ entry.there)
+
+-- an obligation that is done stands for no state to avoid
+and-false : (a b : Bool) → b ≡ false → (a && b) ≡ false
+and-false true b e = e
+and-false false b e = refl
+
+pub done-state : (sig : Sig) (history : List Event) (level : ℕ) (e : ObligationEntry) → is_unfinished e ≡ false → state_from sig history level e ≡ []
+done-state sig history level e done =
+    ap (λ b. cond (b && nat_eq e.level level) (option_to_list (option_map (state_cube sig) (option_and_then world_of (slice_get history e.found)))) [])
+    (and-false (is_none e.parent) (is_unfinished e) done)

@@ -22,6 +22,8 @@ pub mod Marks
 pub mod Mirrors
 pub mod Narrow
 pub mod NextCores
+pub mod OpenChosen
+pub mod OpenKept
 pub mod Pairing
 pub mod Parts
 pub mod Placed

@@ -1,9 +1,10 @@
 -- The places of the elements that pass a test.
-use Rattle.std.proofs.Common.{◌≡◌, ℕ, zero, suc, ◌+◌, ◌<◌, ◌≤◌, Bool, true, false, cond, not, ◌&&◌, ◌||◌, nat_eq, List, [], ◌∷◌, ◌++◌, length, filter, get_or, take, Some, slice_get, refl, sym, ap, subst, ◌∙◌, ◌⊎◌, inl, inr, arith, true≢false, eqb-true, eq-eqb}
-use Rattle.std.specs.List.{flat_map, list_any}
+use Rattle.std.proofs.Common.{◌≡◌, ℕ, zero, suc, ◌+◌, ◌<◌, ◌≤◌, Bool, true, false, cond, not, ◌&&◌, ◌||◌, nat_eq, nat_lt, List, [], ◌∷◌, ◌++◌, length, filter, get_or, take, Some, slice_get, refl, sym, ap, subst, ◌∙◌, ◌⊎◌, inl, inr, arith, true≢false, eqb-true, eq-eqb}
+use Rattle.std.specs.List.{count_by, flat_map, insert, list_any}
 use Rattle.std.specs.Option.{option_map_or}
-use Rattle.std.proofs.lemmas.Bool.{cases_lt, cases_order}
+use Rattle.std.proofs.lemmas.Bool.{cases_lt, cases_order, le-ltb, lt-ltb}
 use Rattle.std.proofs.lemmas.List.{flat_map_more, take_all, take_more}
+use Rattle.std.proofs.lemmas.List.Sums.{sum_by-cons, sum_by_push}
 use Rattle.std.proofs.lemmas.Option.{get_or_from_slice_get, slice_get-get_or}
 use Rattle.up_machine.specs.Replay.{change_at}
 use Rattle.up_machine.specs.Due.{IsFirst}
@@ -24,6 +25,17 @@ pub record IsPlace {X : Type 0} (test : X → Bool) (n k : ℕ) (xs : List X) : 
 pub record IsListed (k : ℕ) (ks : List ℕ) : Type 0 where
   pub at : ℕ
   pub there : slice_get ks at ≡ Some k
+
+-- 1 for true
+abbrev pub one : Bool → ℕ
+one b = cond b 1 0
+
+-- a count one element on, from the front and at the end
+pub count-cons : {X : Type 0} (p : X → Bool) (x : X) (xs : List X) → count_by p (x ∷ xs) ≡ one (p x) + count_by p xs
+count-cons p x xs = sum_by-cons (λ x. one (p x)) x xs
+
+pub count-push : {X : Type 0} (p : X → Bool) (xs : List X) (x : X) → count_by p (xs ++ x ∷ []) ≡ count_by p xs + one (p x)
+count-push p xs x = sum_by_push (λ x. one (p x)) xs x
 
 module _ {X : Type 0} (test : X → Bool) where
   later : (n k : ℕ) (x : X) (xs : List X) → IsPlace test (suc n) k xs → IsPlace test n k (x ∷ xs)
@@ -151,6 +163,77 @@ module _ {X : Type 0} (test : X → Bool) where
         flat-by n x (places_from test (suc n) xs) (flat_map g xs) (test x) refl (ap h here ∙ is 0 x refl)
         (places-flat (suc n) xs (λ k y e. let same : suc n + k ≡ n + suc k = omega arith in ap h same ∙ is (suc k) y e))
 
+  -- a change at a place whose element passes as before
+  pub places-same : (f : X → X) (n k : ℕ) (xs : List X) (x : X) → slice_get xs k ≡ Some x → test (f x) ≡ test x → places_from test n (change_at k f xs) ≡ places_from test n xs
+  places-same f n k [] x e same = refl
+  places-same f n zero (y ∷ xs) x e same =
+      let is = some_injective y x e in
+      ap (first_by n (places_from test (suc n) xs)) (ap (λ z. test (f z)) is ∙ same ∙ ap test (sym is))
+  places-same f n (suc k) (y ∷ xs) x e same = ap (λ l. first_by n l (test y)) (places-same f (suc n) k xs x e same)
+
+  -- a change after which the element passes
+  abbrev pub below : ℕ → List ℕ → ℕ
+  below k ks = count_by (λ j. nat_lt j k) ks
+
+  none-below : (k n : ℕ) (xs : List X) → k ≤ n → below k (places_from test n xs) ≡ 0
+  none-below k n xs le = none-by (places_from test n xs) (λ i j e. let low = place-low n xs i j e in omega (arith, low, le))
+    where
+      none-by : (ks : List ℕ) → ((i j : ℕ) → slice_get ks i ≡ Some j → k ≤ j) → below k ks ≡ 0
+      none-by [] low = refl
+      none-by (j ∷ ks) low =
+          let c = count-cons (λ j. nat_lt j k) j ks in
+          let d = ap one (le-ltb j k (low 0 j refl)) in
+          let r = none-by ks (λ i. low (suc i)) in
+          omega (arith, c, d, r)
+
+  gained-later : (n k : ℕ) (ks ls : List ℕ) (a : Bool) → n < k → ls ≡ insert ks (below k ks) k → first_by n ls a ≡ insert (first_by n ks a) (below k (first_by n ks a)) k
+  gained-later n k ks ls true lt e =
+      let a = count-cons (λ j. nat_lt j k) n ks in
+      let d = ap one (lt-ltb n k lt) in
+      let c : below k (n ∷ ks) ≡ suc (below k ks) = omega (arith, a, d) in
+      ap (λ l. n ∷ l) e ∙ sym (ap (λ i. insert (n ∷ ks) i k) c)
+  gained-later n k ks ls false lt e = e
+
+  gained-here : (n : ℕ) (ks : List ℕ) (b : Bool) → b ≡ false → below n ks ≡ 0 → n ∷ ks ≡ insert (first_by n ks b) (below n (first_by n ks b)) n
+  gained-here n ks true f none = absurd (true≢false f)
+  gained-here n ks false f none = sym (ap (λ i. insert ks i n) none)
+
+  pub places-gained : (f : X → X) (n k : ℕ) (xs : List X) (x : X) → slice_get xs k ≡ Some x → test x ≡ false → test (f x) ≡ true →
+      places_from test n (change_at k f xs) ≡ insert (places_from test n xs) (below (n + k) (places_from test n xs)) (n + k)
+  places-gained f n k [] x e no_more more = none_is_some x e
+  places-gained f n zero (y ∷ xs) x e no_more more =
+      let is = some_injective y x e in
+      let same : n ≡ n + 0 = omega arith in
+      ap (first_by n (places_from test (suc n) xs)) (ap (λ z. test (f z)) is ∙ more)
+      ∙ gained-here n (places_from test (suc n) xs) (test y) (ap test is ∙ no_more) (none-below n (suc n) xs (omega arith))
+      ∙ ap (λ j. insert (first_by n (places_from test (suc n) xs) (test y)) (below j (first_by n (places_from test (suc n) xs) (test y))) j) same
+  places-gained f n (suc k) (y ∷ xs) x e no_more more =
+      let same : suc n + k ≡ n + suc k = omega arith in
+      gained-later n (n + suc k) (places_from test (suc n) xs) (places_from test (suc n) (change_at k f xs)) (test y) (omega arith)
+      (places-gained f (suc n) k xs x e no_more more ∙ ap (λ j. insert (places_from test (suc n) xs) (below j (places_from test (suc n) xs)) j) same)
+
+  -- no more places than elements, and fewer where an element doesn't pass
+  few-by : (n : ℕ) (ks : List ℕ) (m : ℕ) (a : Bool) → length ks ≤ m → length (first_by n ks a) ≤ suc m
+  few-by n ks m true le = omega (arith, le)
+  few-by n ks m false le = omega (arith, le)
+
+  pub places-few : (n : ℕ) (xs : List X) → length (places_from test n xs) ≤ length xs
+  places-few n [] = omega arith
+  places-few n (x ∷ xs) = few-by n (places_from test (suc n) xs) (length xs) (test x) (places-few (suc n) xs)
+
+  fewer-here : (n : ℕ) (ks : List ℕ) (m : ℕ) (a : Bool) → a ≡ false → length ks ≤ m → length (first_by n ks a) < suc m
+  fewer-here n ks m true f le = absurd (true≢false f)
+  fewer-here n ks m false f le = omega (arith, le)
+
+  fewer-later : (n : ℕ) (ks : List ℕ) (m : ℕ) (a : Bool) → length ks < m → length (first_by n ks a) < suc m
+  fewer-later n ks m true lt = omega (arith, lt)
+  fewer-later n ks m false lt = omega (arith, lt)
+
+  pub places-fewer : (n k : ℕ) (xs : List X) (x : X) → slice_get xs k ≡ Some x → test x ≡ false → length (places_from test n xs) < length xs
+  places-fewer n k [] x e no_more = none_is_some x e
+  places-fewer n zero (y ∷ xs) x e no_more = fewer-here n (places_from test (suc n) xs) (length xs) (test y) (ap test (some_injective y x e) ∙ no_more) (places-few (suc n) xs)
+  places-fewer n (suc k) (y ∷ xs) x e no_more = fewer-later n (places_from test (suc n) xs) (length xs) (test y) (places-fewer (suc n) k xs x e no_more)
+
   -- of the places of elements that pass one test those whose elements pass another, which only such
   -- elements do
   module _ (other : X → Bool) (h : ℕ → List ℕ) (only : (x : X) → other x ≡ true → test x ≡ true) where
@@ -179,6 +262,35 @@ module _ {X : Type 0} (test : X → Bool) where
         let here : n ≡ n + 0 = omega arith in
         any-by n (places_from test (suc n) xs) (list_any (λ y. test y && more y) xs) (more x) (test x) (ap h here ∙ is 0 x refl)
         (places-any (suc n) xs (λ k y e. let same : suc n + k ≡ n + suc k = omega arith in ap h same ∙ is (suc k) y e))
+
+  -- how many of those that pass have a further property
+  module _ (more : X → Bool) (h : ℕ → Bool) where
+    count-by : (n : ℕ) (ks : List ℕ) (rest : ℕ) (m a : Bool) → h n ≡ m → count_by h ks ≡ rest → count_by h (first_by n ks a) ≡ one (a && m) + rest
+    count-by n ks rest m true e f = count-cons h n ks ∙ ap (λ b. one b + count_by h ks) e ∙ ap (λ i. one m + i) f
+    count-by n ks rest m false e f = let same : rest ≡ 0 + rest = omega arith in f ∙ same
+
+    pub places-count : (n : ℕ) (xs : List X) → ((k : ℕ) (x : X) → slice_get xs k ≡ Some x → h (n + k) ≡ more x) → count_by h (places_from test n xs) ≡ count_by (λ x. test x && more x) xs
+    places-count n [] is = refl
+    places-count n (x ∷ xs) is =
+        let here : n ≡ n + 0 = omega arith in
+        count-by n (places_from test (suc n) xs) (count_by (λ y. test y && more y) xs) (more x) (test x) (ap h here ∙ is 0 x refl)
+        (places-count (suc n) xs (λ k y e. let same : suc n + k ≡ n + suc k = omega arith in ap h same ∙ is (suc k) y e))
+        ∙ sym (count-cons (λ y. test y && more y) x xs)
+
+  -- whether one passes
+  empty-by : (n : ℕ) (ks : List ℕ) (rest a : Bool) → nat_lt 0 (length ks) ≡ rest → nat_lt 0 (length (first_by n ks a)) ≡ (a || rest)
+  empty-by n ks rest true e = lt-ltb 0 (suc (length ks)) (omega arith)
+  empty-by n ks rest false e = e
+
+  pub places-empty : (n : ℕ) (xs : List X) → nat_lt 0 (length (places_from test n xs)) ≡ list_any test xs
+  places-empty n [] = refl
+  places-empty n (x ∷ xs) = empty-by n (places_from test (suc n) xs) (list_any test xs) (test x) (places-empty (suc n) xs)
+
+-- a count one step on
+pub placed-count-more : (h : ℕ → Bool) (ks : List ℕ) (i k : ℕ) → slice_get ks i ≡ Some k → count_by h (take (i + 1) ks) ≡ count_by h (take i ks) + one (h k)
+placed-count-more h ks i k e =
+    let more = take_more ks i k (get-lt ks i k e) ∙ ap (λ j. take i ks ++ j ∷ []) (get_or_from_slice_get ks i k k e) in
+    ap (count_by h) more ∙ count-push h (take i ks) k
 
 -- the places counted from 0
 module _ {X : Type 0} (test : X → Bool) (xs : List X) where

@@ -1,5 +1,5 @@
 -- What is due, as it is chosen from the numbers that the code keeps.
-use Rattle.std.specs.Prelude.{◌≡◌, ℕ, ◌<◌, ◌≤◌, ◌^◌, Bool, true, false, not, ◌&&◌, nat_eq, List, length, Option, Some, is_none, slice_get, MatchOption, ◌⊎◌}
+use Rattle.std.specs.Prelude.{◌≡◌, ℕ, ◌<◌, ◌≤◌, ◌^◌, Bool, true, false, not, ◌&&◌, nat_eq, List, length, Option, None, Some, is_none, slice_get, MatchOption, ◌⊎◌, cond, nat_lt}
 use Rattle.std.specs.List.{list_any}
 use Rattle.fo_core.specs.declared.system.System.{System}
 use Rattle.up_machine.specs.declared.job.Job.{Job}
@@ -8,13 +8,14 @@ use Rattle.up_machine.specs.declared.job.Task.{Task}
 use Rattle.up_machine.specs.declared.limits.Limits.{Limits}
 use Rattle.up_machine.specs.Due.{IsFirst, Else, by_obligation, by_frontier, by_clause, by_quiet, by_default}
 use Rattle.up_machine.specs.Machine.{Machine}
+use Rattle.up_core.specs.declared.obligations.OpenObligation.{OpenObligation}
 use Rattle.up_core.specs.declared.state.ClauseEntry.{ClauseEntry}
 use Rattle.up_core.specs.declared.state.JobEntry.{JobEntry}
 use Rattle.up_core.specs.declared.state.ObligationEntry.{ObligationEntry}
 use Rattle.up_core.specs.declared.state.Progress.{Progress}
 use Rattle.up_core.specs.declared.state.Progress.TheVariants as P
 use Rattle.up_core.specs.declared.state.State.{State}
-pub use Rattle.up_core.specs.Places.{has_level, may_rise}
+pub use Rattle.up_core.specs.Places.{has_level, is_done, may_rise}
 
 -- numbers of clauses and obligations fit 32 bits, and the secure level is that of a frame
 pub record IsSmall (s : State) : Type 0 where
@@ -42,13 +43,6 @@ is_ready P.Out = false
 is_ready P.Waiting = false
 is_ready P.Done = false
 is_ready (P.Rooted place) = false
-
-abbrev pub is_done : Progress → Bool
-is_done P.Done = true
-is_done P.Ready = false
-is_done P.Out = false
-is_done P.Waiting = false
-is_done (P.Rooted place) = false
 
 -- a seed obligation that is done, or one that isn't
 abbrev pub is_done_seed : ObligationEntry → Bool
@@ -113,6 +107,12 @@ module _ (obligations : List ObligationEntry) (many : ℕ) where
       ((j : ℕ) (e : ObligationEntry) → j < many → slice_get obligations j ≡ Some e →
       ¬ (is_ready e.progress ≡ true))
       IsBest
+
+-- of the best obligation so far and a later one that to work on first
+abbrev pub better_of : Option OpenObligation → OpenObligation → Option OpenObligation
+better_of None next = cond (is_ready next.entry.progress) (Some next) None
+better_of (Some best) next =
+    cond (is_ready next.entry.progress && nat_lt next.entry.level best.entry.level) (Some next) (Some best)
 
 -- what a rule gives, and nothing exactly where it gives no task
 abbrev pub IsChoice : (Task → Type 0) → Option Task → Type 0

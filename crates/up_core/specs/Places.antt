@@ -1,6 +1,9 @@
 -- The places of a list whose elements pass a test, in order.
-use Rattle.std.specs.Prelude.{ℕ, suc, Bool, cond, ◌&&◌, nat_eq, nat_le, is_none, List, [], ◌∷◌}
+use Rattle.std.specs.Prelude.{ℕ, suc, Bool, true, false, not, cond, ◌&&◌, nat_eq, nat_le, is_none, List, [], ◌∷◌}
 use Rattle.up_core.specs.declared.state.ClauseEntry.{ClauseEntry}
+use Rattle.up_core.specs.declared.state.ObligationEntry.{ObligationEntry}
+use Rattle.up_core.specs.declared.state.Progress.{Progress}
+use Rattle.up_core.specs.declared.state.Progress.TheVariants as P
 
 module _ {X : Type 0} (test : X → Bool) where
   -- where the first element has this place
@@ -36,4 +39,26 @@ due_of frontier entries = places_of (may_rise frontier) entries
 pub record ClausesView : Type 0 where
   pub items : List ClauseEntry
   pub frontier : ℕ
+  pub room : ℕ
+
+abbrev pub is_done : Progress → Bool
+is_done P.Done = true
+is_done P.Ready = false
+is_done P.Out = false
+is_done P.Waiting = false
+is_done (P.Rooted place) = false
+
+abbrev pub is_unfinished : ObligationEntry → Bool
+is_unfinished e = not (is_done e.progress)
+
+abbrev pub is_seed : ObligationEntry → Bool
+is_seed e = is_none e.parent
+
+-- the numbers of the obligations that aren't done
+abbrev pub open_of : List ObligationEntry → List ℕ
+open_of entries = places_of is_unfinished entries
+
+-- what contracts see of the obligations: their entries, and for how many more there is room
+pub record ObligationsView : Type 0 where
+  pub items : List ObligationEntry
   pub room : ℕ

@@ -12,7 +12,7 @@ pub use Rattle.up_core.specs.Keeping.{HasRoom}
 -- n further clauses, obligations and jobs fit
 pub record HasSpare (n : ℕ) (s : State) : Type 0 where
   pub clauses : n ≤ s.clauses.room
-  pub obligations : HasRoom n s.obligations
+  pub obligations : n ≤ s.obligations.room
   pub jobs : HasRoom n s.jobs
 
 -- all is the same but the room

@@ -17,6 +17,7 @@ use crate::clauses::Clauses;
 use crate::frames::{copy_cube_at, copy_cubes};
 use crate::kept::Core;
 use crate::lists::job_of;
+use crate::obligations::Obligations;
 use crate::refuting::world_at;
 use crate::state::{ClauseEntry, ObligationEntry, Progress, State};
 use fo_core::{Seq, Sig, World};
@@ -91,14 +92,16 @@ fn states_to_avoid(
     sig: &Sig,
     history: &[Event],
     level: u32,
-    obligations: &[ObligationEntry],
+    obligations: &Obligations,
 ) -> Result<Seq<Cube>, AllocError>
-    requires { AreDescribable sig.now history.now obligations.now }
-    ensures { IfOk result (λ cubes. cubes ≡ avoided sig.now history.now level obligations.now) }
+    requires { AreDescribable sig.now history.now obligations.now.items }
+    ensures { IfOk result (λ cubes. cubes ≡
+        avoided sig.now history.now level obligations.now.items) }
 {
     let mut cubes = Seq::new(alloc);
-    'each: for entry in obligations {
-        push_state(alloc, sig, history, level, entry, &mut cubes)?;
+    'each: for at in 0..obligations.count_open() {
+        let next = obligations.open_at(at);
+        push_state(alloc, sig, history, level, &next.entry, &mut cubes)?;
     }
     Ok(cubes)
 }
@@ -150,12 +153,11 @@ fn brief_look(
     ensures { IfOk result (λ brief. brief ≡ look_brief sig.now history.now state.now) }
 {
     let level = state.clauses.frontier();
-    let obligations = state.obligations.as_slice();
     Ok(Brief {
         job: Job::Look,
         level,
         frame: copy_cubes(alloc, history, level, &state.clauses)?,
-        avoid: states_to_avoid(alloc, sig, history, level, obligations)?,
+        avoid: states_to_avoid(alloc, sig, history, level, &state.obligations)?,
         world: None,
         cube: None,
     })
@@ -264,7 +266,7 @@ fn brief_for(
     ensures { IfOk result (λ brief. brief ≡ brief_at sig.now history.now state.now job) }
 {
     let clauses = &state.clauses;
-    let obligations = state.obligations.as_slice();
+    let obligations = state.obligations.entries();
     match job {
         Job::Work(k) => work_now(alloc, history, clauses, obligations, k),
         Job::Look => Ok(Some(brief_look(alloc, sig, history, state)?)),

@@ -1,15 +1,17 @@
 //! What events that bring a world do to the numbers, and those that change a clause. None takes
 //! memory. A world is named by the place that its event is to have in the history.
 
-ghost use Rattle.std.specs.Prelude.{◌≡◌, ℕ, ◌+◌, ◌<◌, ◌^◌, None, Some, [], ◌∷◌, ◌++◌, length};
+ghost use Rattle.std.specs.Prelude.{◌≡◌, ℕ, ◌+◌, ◌<◌, ◌≤◌, ◌^◌, false, None, Some, [], ◌∷◌, ◌++◌, length};
 ghost use Rattle.std.specs.Option.{option_to_list};
 ghost use Rattle.up_machine.specs.Replay.{change_at};
 ghost use Rattle.up_core.specs.declared.state.Progress.TheVariants.{Ready, Rooted, Waiting};
 ghost use Rattle.up_core.specs.Becoming.{IsPreceded, IsState};
-ghost use Rattle.up_core.specs.Room.{HasRoom, HasSpare};
+ghost use Rattle.up_core.specs.Choice.{is_done};
+ghost use Rattle.up_core.specs.Room.{HasSpare};
 ghost use Rattle.up_core.specs.Steps.{change_where, entry_before, failed_entry, gone_entry, others_of, progress_of, push_in, with_progress, work_in};
 
-use crate::lists::{push_of, release, set_progress, work_of};
+use crate::lists::{push_of, release, work_of};
+use crate::obligations::Obligations;
 use crate::state::{ObligationEntry, Progress, State};
 use up_machine::Origin;
 
@@ -48,13 +50,14 @@ fn first_progress(level: u32, found: usize) -> Progress
 }
 
 /// Appends an entry, if one is given.
-fn push_if(obligations: &mut Vec<ObligationEntry>, entry: Option<ObligationEntry>)
-    requires { HasRoom 1 obligations.old }
+fn push_if(obligations: &mut Obligations, entry: Option<ObligationEntry>)
+    requires room { 1 ≤ obligations.old.room }
+    requires fresh { (e : _) → entry ≡ Some e → is_done e.progress ≡ false }
     ensures items { obligations.new.items ≡ obligations.old.items ++ option_to_list entry }
-    ensures room { (n : ℕ) → HasRoom (n + 1) obligations.old → HasRoom n obligations.new }
+    ensures room { (n : ℕ) → n + 1 ≤ obligations.old.room → n ≤ obligations.new.room }
 {
     if let Some(entry) = entry {
-        obligations.push_reserved(entry);
+        obligations.push(entry);
     }
 }
 
@@ -75,7 +78,7 @@ impl State {
             s.clauses.frontier s.secure s.calm (s.productive + 1) s.ended }
         ensures room { (n : ℕ) → HasSpare (n + 1) self.old → HasSpare n self.new }
     {
-        self.obligations.push_reserved(ObligationEntry {
+        self.obligations.push(ObligationEntry {
             level: self.clauses.frontier(),
             found,
             parent: None,
@@ -97,7 +100,7 @@ impl State {
         ensures room { (n : ℕ) → HasSpare n self.old → HasSpare n self.new }
     {
         let work = work_of(self.jobs.as_slice(), worker);
-        set_progress(&mut self.obligations, work, Progress::Rooted(found));
+        self.obligations.set_progress(work, Progress::Rooted(found));
         release(&mut self.jobs, worker);
         self.productive += 1;
     }
@@ -117,8 +120,8 @@ impl State {
         ensures room { (n : ℕ) → HasSpare (n + 1) self.old → HasSpare n self.new }
     {
         let work = work_of(self.jobs.as_slice(), worker);
-        let before = step_before(self.obligations.as_slice(), work, found);
-        set_progress(&mut self.obligations, work, Progress::Waiting);
+        let before = step_before(self.obligations.entries(), work, found);
+        self.obligations.set_progress(work, Progress::Waiting);
         push_if(&mut self.obligations, before);
         release(&mut self.jobs, worker);
         self.productive += 1;

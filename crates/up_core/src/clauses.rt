@@ -2,8 +2,8 @@
 //! clauses and of those that may rise, and which levels have live clauses. But for making room none
 //! of this takes memory.
 
-ghost use Rattle.std.specs.Prelude.{◌≡◌, ℕ, ◌+◌, ◌<◌, ◌≤◌, ◌^◌, ◌||◌, cond, not, nat_eq, None, Some, slice_get, [], ◌∷◌, ◌++◌, length, IfOk, OnOk};
-ghost use Rattle.std.specs.List.{filter, list_any};
+ghost use Rattle.std.specs.Prelude.{◌≡◌, ℕ, ◌+◌, ◌<◌, ◌≤◌, ◌^◌, ◌||◌, cond, nat_eq, Some, slice_get, [], ◌∷◌, ◌++◌, length, IfOk, OnOk};
+ghost use Rattle.std.specs.List.{list_any};
 ghost use Rattle.std.specs.Vec.{vec_capacity, vec_len};
 ghost use Rattle.up_core.specs.Keeping.{AreGathered, HasRoom};
 ghost use Rattle.up_core.specs.Lapsing.{AreLapsable, AreLapsed};
@@ -12,6 +12,7 @@ ghost use Rattle.up_core.specs.Steps.{change_where, failed_entry, gone_entry, ne
 ghost use Rattle.up_machine.specs.Replay.{change_at};
 
 use crate::lapsing::{Lapse, lapse_all};
+use crate::numbers::{reserve_beside, strike};
 use crate::state::ClauseEntry;
 use std::alloc::{AllocError, Global};
 use std::marker::Model;
@@ -54,16 +55,6 @@ impl Model for Clauses {
     ghost view = { λ c. record { items = c.entries.items; frontier = c.frontier; room = c.room } };
 
     ghost invariant = { λ c. AreKept c.entries c.live c.due c.levels c.frontier c.room };
-}
-
-/// Takes a number out of the list.
-fn strike(numbers: &mut Vec<usize>, gone: usize)
-    ensures items { numbers.new.items ≡ filter (λ k. not (nat_eq k gone)) numbers.old.items }
-    ensures room { (n : ℕ) → HasRoom n numbers.old → HasRoom n numbers.new }
-    ensures capacity { vec_capacity numbers.new ≡ vec_capacity numbers.old }
-    ensures fewer { vec_len numbers.new ≤ vec_len numbers.old }
-{
-    numbers.retain(|k| *k != gone);
 }
 
 /// The clause at a place, if it is there, goes.
@@ -181,20 +172,6 @@ fn gather_levels(levels: &mut [bool], entries: &[ClauseEntry], live: &[usize])
     'each: for at in 0..live.len() {
         let clause = live_clause(entries, live, at);
         mark_level(levels, clause.entry.level);
-    }
-}
-
-/// Makes room in a list of numbers for this many more than the most that may stand in it now. Where
-/// memory is refused nothing is lost.
-fn reserve_beside(numbers: &mut Vec<usize>, most: usize, more: usize) -> Result<(), AllocError>
-    ensures items { numbers.new.items ≡ numbers.old.items }
-    ensures kept { vec_capacity numbers.old ≤ vec_capacity numbers.new }
-    ensures room { OnOk result (most + more ≤ vec_capacity numbers.new) }
-{
-    let missing = most.saturating_sub(numbers.len());
-    match missing.checked_add(more) {
-        Some(wanted) => numbers.reserve(wanted),
-        None => Err(AllocError),
     }
 }
 

@@ -9,7 +9,7 @@ ghost use Rattle.up_core.specs.Steps.{finished, others_of, push_in, work_in};
 
 use crate::clauses::Clauses;
 use crate::lapsing::Lapse;
-use crate::lists::{finish_at, push_of, release, work_of};
+use crate::lists::{push_of, release, work_of};
 use crate::refuting::{cube_at, pushed_entry};
 use crate::state::{ClauseEntry, State};
 use fo_core::Sig;
@@ -131,7 +131,7 @@ impl State {
         self.clauses.lapse(lapse, picks);
         self.clauses.push(found, lapse.high);
         let work = work_of(self.jobs.as_slice(), worker);
-        finish_at(&mut self.obligations, work);
+        self.obligations.finish(work);
         release(&mut self.jobs, worker);
         self.productive += 1;
     }

@@ -16,6 +16,8 @@ mod learning;
 mod leaves;
 mod links;
 mod lists;
+mod numbers;
+mod obligations;
 mod refuting;
 mod state;
 mod steps;

@@ -158,7 +158,7 @@ pub(crate) fn links_of(
     requires { CanTellLinks sig.now history.now state.now worker }
     ensures { IfOk result (λ links. AreLinksOf sig.now history.now state.now worker links) }
 {
-    let obligations = state.obligations.as_slice();
+    let obligations = state.obligations.entries();
     match traced(worker, history) {
         Some(k) => match root_of(history, obligations, k as usize) {
             Some(root) => {

@@ -7,49 +7,6 @@ ghost use Rattle.up_core.specs.Steps.{change_where, entry_of, finished, others_o
 use crate::state::{JobEntry, ObligationEntry, Progress};
 use up_machine::Job;
 
-/// Sets what has become of the obligation at a place, if one is given that is there.
-pub(crate) fn set_progress(
-    obligations: &mut Vec<ObligationEntry>,
-    place: Option<usize>,
-    progress: Progress,
-)
-    ensures items { obligations.new.items ≡
-        change_where place (with_progress progress) obligations.old.items }
-    ensures room { (n : ℕ) → HasRoom n obligations.old → HasRoom n obligations.new }
-{
-    if let Some(k) = place {
-        if k < obligations.len() {
-            obligations[k].progress = progress;
-        }
-    }
-}
-
-/// The parent of the obligation at a place, if there is one.
-fn parent_at(obligations: &[ObligationEntry], place: Option<usize>) -> Option<usize>
-    ensures { result ≡ parent_in obligations.now place }
-{
-    match place {
-        Some(k) => match obligations.get(k) {
-            Some(entry) => match entry.parent {
-                Some(parent) => Some(parent as usize),
-                None => None,
-            },
-            None => None,
-        },
-        None => None,
-    }
-}
-
-/// The obligation at a place, if one is given that is there, is done, and its parent ready.
-pub(crate) fn finish_at(obligations: &mut Vec<ObligationEntry>, place: Option<usize>)
-    ensures items { obligations.new.items ≡ finished place obligations.old.items }
-    ensures room { (n : ℕ) → HasRoom n obligations.old → HasRoom n obligations.new }
-{
-    let parent = parent_at(obligations.as_slice(), place);
-    set_progress(obligations, place, Progress::Done);
-    set_progress(obligations, parent, Progress::Ready);
-}
-
 /// The job of the worker, if it has one.
 pub(crate) fn job_of(jobs: &[JobEntry], worker: u32) -> Option<JobEntry>
     ensures { result ≡ entry_of worker jobs.now }

@@ -119,7 +119,7 @@ pub(crate) fn own_refuter(
     ensures within { IfSome result (λ k. k < length state.now.clauses.items) }
     ensures room { picks.new ≡ picks.old }
 {
-    match own_entry(state.obligations.as_slice(), state.jobs.as_slice(), worker) {
+    match own_entry(state.obligations.entries(), state.jobs.as_slice(), worker) {
         Some(entry) => match world_at(history, entry.found) {
             Some(world) => {
                 first_refuter(history, &state.clauses, sig, world, entry.level, picks)
@@ -169,7 +169,7 @@ pub(crate) fn step_refuter(
     ensures within { IfSome result (λ k. k < length state.now.clauses.items) }
     ensures room { picks.new ≡ picks.old }
 {
-    match own_entry(state.obligations.as_slice(), state.jobs.as_slice(), worker) {
+    match own_entry(state.obligations.entries(), state.jobs.as_slice(), worker) {
         Some(entry) => {
             if entry.level < 2 {
                 return None;

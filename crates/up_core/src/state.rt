@@ -8,6 +8,7 @@ ghost use Rattle.up_core.specs.Mirror.{IsMirror};
 ghost use Rattle.up_core.specs.Room.{HasSpare, HaveSameLists};
 
 use crate::clauses::Clauses;
+use crate::obligations::Obligations;
 use std::alloc::{AllocError, Global};
 use up_machine::Job;
 
@@ -63,7 +64,7 @@ pub(crate) struct JobEntry {
 #[derive(Drop)]
 pub(crate) struct State {
     pub clauses: Clauses,
-    pub obligations: Vec<ObligationEntry>,
+    pub obligations: Obligations,
     pub jobs: Vec<JobEntry>,
     /// The last frame of which no state violates a safety, as far as is known.
     pub secure: u32,
@@ -83,7 +84,7 @@ impl State {
     {
         Ok(State {
             clauses: Clauses::new(alloc)?,
-            obligations: Vec::new(alloc),
+            obligations: Obligations::new(alloc),
             jobs: Vec::new(alloc),
             secure: 0,
             calm: None,

@@ -8,7 +8,7 @@ ghost use Rattle.up_core.specs.Room.{HasSpare};
 ghost use Rattle.up_core.specs.Steps.{calm_of, change_where, finished, others_of, with_progress, work_in, work_of_job};
 ghost use Rattle.up_core.specs.declared.state.Progress.TheVariants.{Out, Ready};
 
-use crate::lists::{finish_at, job_of, release, set_progress, work_of};
+use crate::lists::{job_of, release, work_of};
 use crate::state::{JobEntry, Progress, State};
 use crate::tasks::done_seeds;
 use up_machine::{Job, Why};
@@ -52,8 +52,9 @@ impl State {
             s.clauses.frontier s.secure s.calm s.productive s.ended }
         ensures room { (n : ℕ) → HasSpare (n + 1) self.old → HasSpare n self.new }
     {
-        let done = done_seeds(self.obligations.as_slice()) as u32;
-        set_progress(&mut self.obligations, work_in_job(job), Progress::Out);
+        let done = done_seeds(&self.obligations) as u32;
+        self.obligations
+            .set_progress(work_in_job(job), Progress::Out);
         self.jobs.push_reserved(JobEntry { worker, job, done });
     }
 
@@ -117,7 +118,7 @@ impl State {
         ensures room { (n : ℕ) → HasSpare n self.old → HasSpare n self.new }
     {
         let work = work_of(self.jobs.as_slice(), worker);
-        finish_at(&mut self.obligations, work);
+        self.obligations.finish(work);
         release(&mut self.jobs, worker);
         self.productive += 1;
     }
@@ -134,7 +135,7 @@ impl State {
     {
         self.calm = calm_after(why, self.jobs.as_slice(), worker, self.calm);
         let work = work_of(self.jobs.as_slice(), worker);
-        set_progress(&mut self.obligations, work, Progress::Ready);
+        self.obligations.set_progress(work, Progress::Ready);
         release(&mut self.jobs, worker);
     }
 }

@@ -7,11 +7,12 @@ ghost use Rattle.fo_core.specs.declared.system.System.{System};
 ghost use Rattle.up_machine.specs.declared.event.Event.{Event};
 ghost use Rattle.up_machine.specs.Due.{by_end, by_closed_level, by_root, by_steps, by_obligation, by_frontier, by_clause, by_quiet, IsDue, IsFirst, IsQuiet};
 ghost use Rattle.up_machine.specs.Machine.{Machine};
-ghost use Rattle.up_core.specs.Choice.{IsBest, IsBestPlace, IsChoice, IsClosedAt, IsFirstPlace, IsLaterDue, IsSmall, has_job, is_done as done_of, is_done_seed, is_look, is_open_seed, is_push_of, is_ready as ready_of, is_rooted as rooted_of, is_to_push, is_trace};
+ghost use Rattle.up_core.specs.Choice.{IsBestPlace, IsChoice, IsClosedAt, IsFirstPlace, IsLaterDue, IsSmall, better_of, has_job, is_done as done_of, is_done_seed, is_look, is_open_seed, is_push_of, is_ready as ready_of, is_rooted as rooted_of, is_to_push, is_trace};
 ghost use Rattle.up_core.specs.Mirror.{IsMirror};
 
 use crate::clauses::Clauses;
-use crate::state::{JobEntry, ObligationEntry, Progress, State};
+use crate::obligations::{Obligations, OpenObligation, count_seed};
+use crate::state::{JobEntry, Progress, State};
 use up_machine::{Job, Limits, MOST_SEEDS, Short, Task};
 
 /// The least level from 1 to the secure one that no live clause has.
@@ -39,63 +40,48 @@ fn is_ready(progress: Progress) -> bool
     matches!(progress, Progress::Ready)
 }
 
-fn is_done(progress: Progress) -> bool
-    ensures { result ≡ done_of progress }
-{
-    matches!(progress, Progress::Done)
-}
-
 /// The first obligation with an initial state before it.
-fn first_rooted(obligations: &[ObligationEntry]) -> Option<usize>
-    ensures { IsFirstPlace obligations.now (λ _ e. rooted_of e.progress) result }
+fn first_rooted(obligations: &Obligations) -> Option<usize>
+    ensures { IsFirstPlace obligations.now.items (λ _ e. rooted_of e.progress) result }
 {
-    'each: for (k, entry) in obligations.iter().enumerate() {
-        if is_rooted(entry.progress) {
-            return Some(k);
+    'each: for at in 0..obligations.count_open() {
+        let next = obligations.open_at(at);
+        if is_rooted(next.entry.progress) {
+            return Some(next.number);
         }
     }
     None
 }
 
-/// The first ready obligation.
-fn first_ready(obligations: &[ObligationEntry]) -> Option<usize>
-    ensures { IsFirstPlace obligations.now (λ _ e. ready_of e.progress) result }
+/// The one to work on first of the best so far, if there is one, and a later one.
+fn better(best: Option<OpenObligation>, next: OpenObligation) -> Option<OpenObligation>
+    ensures { result ≡ better_of best next }
 {
-    'each: for (k, entry) in obligations.iter().enumerate() {
-        if is_ready(entry.progress) {
-            return Some(k);
-        }
+    if !is_ready(next.entry.progress) {
+        return best;
     }
-    None
-}
-
-/// Whether the obligation is ready and below this level.
-fn is_lower(entry: &ObligationEntry, level: u32) -> bool
-    ensures { result ≡ (ready_of entry.now.progress && nat_lt entry.now.level level) }
-{
-    is_ready(entry.progress) && entry.level < level
-}
-
-/// The first ready obligation of least level, where this one is the first ready one.
-fn lowest_ready(obligations: &[ObligationEntry], first: usize) -> usize
-    requires { IsFirst obligations.now (λ _ e. ready_of e.progress ≡ true) first }
-    ensures { IsBest obligations.now (length obligations.now) result }
-{
-    let mut best = first;
-    'each: for k in first..obligations.len() {
-        if is_lower(&obligations[k], obligations[best].level) {
-            best = k;
+    match best {
+        Some(found) => {
+            if next.entry.level < found.entry.level {
+                Some(next)
+            } else {
+                Some(found)
+            }
         }
+        None => Some(next),
     }
-    best
 }
 
 /// The first ready obligation of least level.
-fn next_work(obligations: &[ObligationEntry]) -> Option<usize>
-    ensures { IsBestPlace obligations.now (length obligations.now) result }
+fn next_work(obligations: &Obligations) -> Option<usize>
+    ensures { IsBestPlace obligations.now.items (length obligations.now.items) result }
 {
-    match first_ready(obligations) {
-        Some(first) => Some(lowest_ready(obligations, first)),
+    let mut best = None;
+    'each: for at in 0..obligations.count_open() {
+        best = better(best, obligations.open_at(at));
+    }
+    match best {
+        Some(found) => Some(found.number),
         None => None,
     }
 }
@@ -130,32 +116,30 @@ pub(crate) fn push_is_out(jobs: &[JobEntry], clause: usize) -> bool
     jobs.iter().any(|entry| is_push_at(entry.job, clause))
 }
 
-/// How many seed obligations are done.
-pub(crate) fn done_seeds(obligations: &[ObligationEntry]) -> usize
-    ensures value { result ≡ count_by is_done_seed obligations.now }
-    ensures few { result ≤ length obligations.now }
+/// How many seed obligations aren't done.
+fn open_seeds(obligations: &Obligations) -> usize
+    ensures { result ≡ count_by is_open_seed obligations.now.items }
 {
-    obligations
-        .iter()
-        .filter(|entry| entry.parent.is_none() && is_done(entry.progress))
-        .count()
+    let mut count = 0;
+    'each: for at in 0..obligations.count_open() {
+        count += count_seed(&obligations.open_at(at).entry);
+    }
+    count
 }
 
-/// How many aren't.
-fn open_seeds(obligations: &[ObligationEntry]) -> usize
-    ensures { result ≡ count_by is_open_seed obligations.now }
+/// How many are.
+pub(crate) fn done_seeds(obligations: &Obligations) -> usize
+    ensures value { result ≡ count_by is_done_seed obligations.now.items }
+    ensures few { result ≤ length obligations.now.items }
 {
-    obligations
-        .iter()
-        .filter(|entry| entry.parent.is_none() && !is_done(entry.progress))
-        .count()
+    obligations.seeds() - open_seeds(obligations)
 }
 
 /// Whether some obligation isn't done.
-fn has_open(obligations: &[ObligationEntry]) -> bool
-    ensures { result ≡ list_any (λ e. not (done_of e.progress)) obligations.now }
+fn has_open(obligations: &Obligations) -> bool
+    ensures { result ≡ list_any (λ e. not (done_of e.progress)) obligations.now.items }
 {
-    obligations.iter().any(|entry| !is_done(entry.progress))
+    obligations.count_open() > 0
 }
 
 /// The first clause that is to be pushed.
@@ -198,7 +182,7 @@ impl State {
         ensures { (sys : System) (limits : Limits) (history : List Event) (m : Machine) →
             IsMirror sys history m self.now → IsChoice (by_root sys limits m) result }
     {
-        match first_rooted(self.obligations.as_slice()) {
+        match first_rooted(&self.obligations) {
             Some(k) => {
                 if trace_is_out(self.jobs.as_slice()) {
                     Some(Task::Idle)
@@ -228,7 +212,7 @@ impl State {
         ensures { (sys : System) (limits : Limits) (history : List Event) (m : Machine) →
             IsMirror sys history m self.now → IsChoice (by_obligation sys limits m) result }
     {
-        match next_work(self.obligations.as_slice()) {
+        match next_work(&self.obligations) {
             Some(k) => Some(Task::Job(Job::Work(k as u32))),
             None => None,
         }
@@ -239,7 +223,7 @@ impl State {
         ensures { IsTrue result ↔
             (self.now.calm ≡ Some (count_by is_done_seed self.now.obligations.items)) }
     {
-        let done = done_seeds(self.obligations.as_slice());
+        let done = done_seeds(&self.obligations);
         match self.calm {
             Some(calm) => calm as usize == done,
             None => false,
@@ -260,7 +244,7 @@ impl State {
         if self.is_calm() {
             return None;
         }
-        if open_seeds(self.obligations.as_slice()) >= MOST_SEEDS as usize {
+        if open_seeds(&self.obligations) >= MOST_SEEDS as usize {
             return None;
         }
         Some(Task::Job(Job::Look))
@@ -286,7 +270,7 @@ impl State {
         if self.secure != self.clauses.frontier() {
             return false;
         }
-        if has_open(self.obligations.as_slice()) {
+        if has_open(&self.obligations) {
             return false;
         }
         self.jobs.as_slice().is_empty()

@@ -22,7 +22,7 @@ fn own_level(state: &State, worker: u32) -> u32
         own_in worker state.now.obligations.items state.now.jobs.items ≡ Some e →
         result ≡ e.level }
 {
-    match own_entry(state.obligations.as_slice(), state.jobs.as_slice(), worker) {
+    match own_entry(state.obligations.entries(), state.jobs.as_slice(), worker) {
         Some(entry) => entry.level,
         None => 0,
     }

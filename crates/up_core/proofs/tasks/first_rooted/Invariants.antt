@@ -1,7 +1,10 @@
-use Rattle.std.proofs.Common.{◌≡◌, ℕ, ◌<◌, Some, true, slice_get}
-use Rattle.up_core.specs.Choice.{is_rooted as rooted_of}
+use Rattle.std.proofs.Common.{◌≡◌, true}
+use Rattle.up_core.specs.Choice.{is_rooted}
+use Rattle.up_core.specs.Places.{is_unfinished}
+use Rattle.up_core.proofs.OpenChosen.{rooted-unfinished}
+use Rattle.up_core.proofs.Placed.{NoneBefore}
 use Rattle.up_core.proofs.tasks.first_rooted.Given as goal
 
--- none before this one passes
+-- none of those that aren't done before this one is rooted
 abbrev pub invariant-each : goal.invariant-each
-invariant-each l = (k : ℕ) (e : _) → k < l.k → slice_get l.obligations k ≡ Some e → ¬ (rooted_of e.progress ≡ true)
+invariant-each l = NoneBefore is_unfinished l.obligations.items (λ _ e. is_rooted e.progress ≡ true) rooted-unfinished l.at

@@ -13,11 +13,11 @@ is_open e = not (is_done e.progress)
 pub returns-then-has_open : goal.returns-then-has_open
 returns-then-has_open c sys history m mirror = (
   λ t. false_is_true t,
-  λ quiet. absurd (quiet-open sys history m c.args.self.now mirror (sym (ap (list_any is_open) c.as_slice.ensures.value) ∙ sym c.has_open.ensures ∙ c.if-has_open.true) quiet),
+  λ quiet. absurd (quiet-open sys history m c.args.self.now mirror (sym c.has_open.ensures ∙ c.if-has_open.true) quiet),
 )
 
 pub returns : goal.returns
 returns c sys history m mirror =
     quiet-by-jobs sys history m c.args.self.now mirror (c.if-self-frontier.false ∙ c.frontier.ensures)
-    (sym (ap (list_any is_open) c.as_slice.ensures.value) ∙ sym c.has_open.ensures ∙ c.if-has_open.false)
-    c.is_empty.result (c.is_empty.ensures ∙ ap (λ (js : List JobEntry). nat_eq (length js) 0) c.as_slice-2.ensures.value)
+    (sym c.has_open.ensures ∙ c.if-has_open.false)
+    c.is_empty.result (c.is_empty.ensures ∙ ap (λ (js : List JobEntry). nat_eq (length js) 0) c.as_slice.ensures.value)

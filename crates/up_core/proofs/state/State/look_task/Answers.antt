@@ -16,11 +16,11 @@ returns-then-is_calm c sys limits history m mirror =
 pub returns-then-open_seeds : goal.returns-then-open_seeds
 returns-then-open_seeds c sys limits history m mirror =
     look-many sys limits history m c.args.self.now mirror
-    (subst (λ n. MOST_SEEDS ≤ n) (c.open_seeds.ensures ∙ ap (count_by is_open_seed) c.as_slice-2.ensures.value) c.if-open_seeds.true)
+    (subst (λ n. MOST_SEEDS ≤ n) c.open_seeds.ensures c.if-open_seeds.true)
 
 pub returns : goal.returns
 returns c sys limits history m mirror =
     look-some sys limits history m c.args.self.now mirror (subst (λ n. c.args.self.now.secure < n) c.frontier.ensures c.if-self-frontier.false)
     (sym (ap (has_job is_look) c.as_slice.ensures.value) ∙ sym c.look_is_out.ensures ∙ c.if-look_is_out.false)
     (not-true-of c.is_calm.result _ c.is_calm.ensures c.if-is_calm.false)
-    (subst (λ n. n < MOST_SEEDS) (c.open_seeds.ensures ∙ ap (count_by is_open_seed) c.as_slice-2.ensures.value) c.if-open_seeds.false)
+    (subst (λ n. n < MOST_SEEDS) c.open_seeds.ensures c.if-open_seeds.false)

@@ -8,18 +8,18 @@ pub returns-then-trace_is_out : goal.returns-then-trace_is_out
 returns-then-trace_is_out c sys limits history m mirror =
     let s = c.args.self.now in
     root-idle sys limits history m s mirror c.in-Some.k
-    (subst (λ xs. IsFirstPlace xs (λ _ (e : ObligationEntry). is_rooted e.progress) (Some c.in-Some.k)) c.as_slice.ensures.value c.in-Some.ensures)
-    (sym (ap (has_job is_trace) c.as_slice-in-Some.ensures.value) ∙ sym c.trace_is_out.ensures ∙ c.if-trace_is_out.true)
+    c.in-Some.ensures
+    (sym (ap (has_job is_trace) c.as_slice.ensures.value) ∙ sym c.trace_is_out.ensures ∙ c.if-trace_is_out.true)
 
 pub returns-else-trace_is_out : goal.returns-else-trace_is_out
 returns-else-trace_is_out c sys limits history m mirror =
     let s = c.args.self.now in
     root-some sys limits history m s mirror c.in-Some.k
-    (subst (λ xs. IsFirstPlace xs (λ _ (e : ObligationEntry). is_rooted e.progress) (Some c.in-Some.k)) c.as_slice.ensures.value c.in-Some.ensures)
-    (sym (ap (has_job is_trace) c.as_slice-in-Some.ensures.value) ∙ sym c.trace_is_out.ensures ∙ c.if-trace_is_out.false)
+    c.in-Some.ensures
+    (sym (ap (has_job is_trace) c.as_slice.ensures.value) ∙ sym c.trace_is_out.ensures ∙ c.if-trace_is_out.false)
 
 pub returns-in-None : goal.returns-in-None
 returns-in-None c sys limits history m mirror =
     let s = c.args.self.now in
     root-none sys limits history m s mirror
-    (subst (λ xs. IsFirstPlace xs (λ _ (e : ObligationEntry). is_rooted e.progress) None) c.as_slice.ensures.value c.in-None.ensures)
+    c.in-None.ensures

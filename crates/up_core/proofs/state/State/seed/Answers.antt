@@ -7,6 +7,6 @@ returns-clause-room c n h =
     let jobs : HasRoom n c.args.self.now.jobs = omega (arith, h.jobs) in
     record {
       clauses = omega (arith, h.clauses);
-      obligations = omega (arith, h.obligations, c.push_reserved.ensures.len, c.push_reserved.ensures.capacity);
+      obligations = omega (arith, h.obligations, c.push.ensures.room);
       jobs = c.release.ensures.room n jobs;
     }

@@ -6,9 +6,9 @@ use Rattle.up_core.proofs.state.State.work_task.Goals as goal
 pub returns-in-Some : goal.returns-in-Some
 returns-in-Some c sys limits history m mirror =
     work-some sys limits history m c.args.self.now mirror c.in-Some.k
-    (subst (λ xs. IsBestPlace xs (length xs) (Some c.in-Some.k)) c.as_slice.ensures.value c.in-Some.ensures)
+    c.in-Some.ensures
 
 pub returns-in-None : goal.returns-in-None
 returns-in-None c sys limits history m mirror =
     work-none sys limits history m c.args.self.now mirror
-    (subst (λ xs. IsBestPlace xs (length xs) None) c.as_slice.ensures.value c.in-None.ensures)
+    c.in-None.ensures
