@@ -78,7 +78,7 @@ module _ (o : Outside) (words : List (List ℕ)) (e : End CoreView) where
       none : (job : Job) → NoneLeaves (verify_rows job)
       none job = (
         (λ g bytes left says. says.1),
-        ((λ g bytes left says. says.4), ((λ g bytes left says. says.3), tt)),
+        ((λ g bytes left says. says.5), ((λ g bytes left says. says.3), tt)),
       )
 
       of : Came verify_command o words e → e.left ≡ None

@@ -1,8 +1,10 @@
 -- The text that is made is refused, or a row over what it means is a row of the command.
+use denote.Param.Send.{sendable}
 use Rattle.std.proofs.Common.{◌≡◌, ◌∙◌, ◌≤◌, List, ℕ, [], ◌∷◌, length, sym, subst, ap, arith}
 use Rattle.std.proofs.lemmas.Result.{err_from_is_err_and}
 use Rattle.fo_core.specs.declared.order.Order.{Order}
 use Rattle.fo_core.specs.declared.order.Purpose.TheVariants as purpose
+use Rattle.fo_solve.proofs.Crossing.{engine_send}
 use Rattle.pyv_sorts.specs.declared.model.Elaborated.{Elaborated}
 use Rattle.up_gen.specs.Models.{model_text_of}
 use Rattle.updr_table.specs.Rows.{Ends, contents_of}
@@ -51,3 +53,6 @@ returns g c =
     let end = c.in_ok-demonstrated.field-0 in
     let ends = subst (λ (k : ℕ). Ends (demo_table k) (record { meant = meant; contents = model_text_of n ∷ [] }) end) c.relations_by-relations.ensures.is (c.in_ok-demonstrated.ensures (model_text_of n ∷ [])) in
     of_search n cs end meant means (c.in_ok-order.order.numbers, c.in_ok-order.ensures.rises) ends
+
+pub infer_rounds-requires-send-M-One : goal.infer_rounds-requires-send-M-One
+infer_rounds-requires-send-M-One g c κs within = search (sendable, engine_send)
