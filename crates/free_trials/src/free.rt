@@ -1,5 +1,5 @@
-//! Whole searches by workers that run freely, and that two of them are outside the turn at one time.
-//! Where memory runs out a test stops.
+//! Whole searches by workers that run freely, and that two of them are outside the turn at one
+//! time. Where memory runs out a test stops.
 
 ghost use Rattle.std.specs.Prelude.{◌≡◌};
 ghost use Rattle.fo_core.specs.declared.query.TheConstants.{MOST_WEIGHT};
@@ -7,7 +7,7 @@ ghost use Rattle.up_claims.specs.Inferring.{CanInfer};
 
 use crossbeam_utils::Backoff;
 use fo_core::{Finder, Finders, Found, MOST_WEIGHT, Order, Purpose, Query, System};
-use fo_solve::{Engine, Engines};
+use fo_solve::Engine;
 use pyv_lex::tokens;
 use pyv_parse::parse;
 use pyv_sorts::elaborate;
@@ -37,8 +37,8 @@ fn is_reached(count: &AtomicU64) -> bool {
     false
 }
 
-/// A gate that, once some job is solved, stops one worker at its first job until the other has taken
-/// one too.
+/// A gate that, once some job is solved, stops one worker at its first job until the other has
+/// taken one too.
 #[derive(Drop)]
 struct Meeting<'a> {
     stopped: u32,
@@ -83,6 +83,37 @@ impl<'a> Gate for Telling<'a> {
     }
 }
 
+/// Makes finders that keep nothing: each question is answered by a new engine.
+#[derive(Drop)]
+struct Plain;
+
+#[derive(Drop)]
+struct PlainOne;
+
+impl Finder for PlainOne {
+    ghost limit = { λ _. MOST_WEIGHT };
+
+    fn find(
+        &mut self,
+        alloc: Global,
+        sys: &System,
+        order: &Order,
+        q: &Query,
+    ) -> Result<Found, AllocError> {
+        Engine::new(MOST_WEIGHT).find(alloc, sys, order, q)
+    }
+}
+
+impl Finders for Plain {
+    type One = PlainOne;
+
+    ghost limit = { λ _. MOST_WEIGHT };
+
+    fn one(&self, _alloc: Global) -> Result<PlainOne, AllocError> {
+        Ok(PlainOne)
+    }
+}
+
 /// Makes finders of which the first that is asked after the first job is solved waits until another
 /// is asked.
 #[derive(Drop)]
@@ -95,7 +126,6 @@ struct Pairs<'a> {
 
 #[derive(Drop)]
 struct OneOfPair<'a> {
-    inner: Engine,
     solved: &'a AtomicU64,
     asked: &'a AtomicU64,
     second: &'a AtomicU64,
@@ -117,7 +147,7 @@ fn meet(solved: &AtomicU64, asked: &AtomicU64, second: &AtomicU64, met: &AtomicU
 }
 
 impl<'a> Finder for OneOfPair<'a> {
-    ghost limit = { λ f. ⟦<Engine as Finder>⟧.limit f.inner };
+    ghost limit = { λ _. MOST_WEIGHT };
 
     fn find(
         &mut self,
@@ -127,7 +157,7 @@ impl<'a> Finder for OneOfPair<'a> {
         q: &Query,
     ) -> Result<Found, AllocError> {
         meet(self.solved, self.asked, self.second, self.met);
-        self.inner.find(alloc, sys, order, q)
+        Engine::new(MOST_WEIGHT).find(alloc, sys, order, q)
     }
 }
 
@@ -138,7 +168,6 @@ impl<'a> Finders for Pairs<'a> {
 
     fn one(&self, _alloc: Global) -> Result<OneOfPair<'a>, AllocError> {
         Ok(OneOfPair {
-            inner: Engine::new(MOST_WEIGHT),
             solved: self.solved,
             asked: self.asked,
             second: self.second,
@@ -154,8 +183,8 @@ struct Problem {
     order: Order,
 }
 
-/// The smallest of the generated models: at first the server has the token, nodes take it and give it
-/// back, and no two are to hold it.
+/// The smallest of the generated models: at first the server has the token, nodes take it and give
+/// it back, and no two are to hold it.
 fn smallest_generated(rt: &impl Abort, alloc: Global) -> Problem
     ensures { CanInfer result.sys result.order }
 {
@@ -208,8 +237,7 @@ fn is_safe(core: &Core) -> bool {
 
 /// This many workers come to an invariant.
 fn come_to_an_invariant<R: Abort + Threads + Wait + Sync>(rt: &R, alloc: Global, workers: u32) {
-    let makers = Engines { limit: MOST_WEIGHT };
-    let core = run(rt, alloc, &makers, workers, &FreeGate);
+    let core = run(rt, alloc, &Plain, workers, &FreeGate);
     assert!(rt; is_safe(&core));
 }
 
@@ -226,8 +254,7 @@ fn hold_jobs_at_one_time<R: Abort + Threads + Wait + Sync>(rt: &R, alloc: Global
         passed: &passed,
         met: &met,
     };
-    let makers = Engines { limit: MOST_WEIGHT };
-    let core = run(rt, alloc, &makers, 2, &gate);
+    let core = run(rt, alloc, &Plain, 2, &gate);
     assert!(rt; is_safe(&core));
     assert_eq!(rt; met.load(Ordering::SeqCst), 1);
 }
