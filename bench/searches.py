@@ -13,9 +13,9 @@ import os
 import subprocess
 import sys
 import tempfile
-import threading
 import time
 from dataclasses import dataclass
+from typing import Optional
 
 HERE = os.path.dirname(os.path.abspath(__file__))
 LOCK_SERVER = os.path.join(HERE, "..", "examples", "lock-server.pyv")
@@ -46,7 +46,7 @@ def model(count):
 class Ran:
     """What the program answered: its status, or None where the time was over; its output; seconds, kilobytes."""
 
-    status: int | None
+    status: Optional[int]
     output: str
     seconds: float
     memory: int
@@ -55,16 +55,12 @@ class Ran:
 def run(limit, *words):
     """Runs the program on the words, at most so many seconds."""
     begin = time.monotonic()
-    with tempfile.TemporaryFile("w+") as out:
-        process = subprocess.Popen(words, stdout=out)
-        clock = threading.Timer(limit, process.kill)
-        clock.start()
-        _, ended, usage = os.wait4(process.pid, 0)
-        clock.cancel()
-        process.returncode = os.waitstatus_to_exitcode(ended)
-        out.seek(0)
-        status = process.returncode if process.returncode >= 0 else None
-        return Ran(status, out.read(), time.monotonic() - begin, usage.ru_maxrss)
+    with tempfile.NamedTemporaryFile("r") as memory:
+        measured = ["/usr/bin/time", "-f", "%M", "-o", memory.name, "timeout", "-s", "KILL", str(limit), *words]
+        done = subprocess.run(measured, stdout=subprocess.PIPE, text=True)
+        seconds = time.monotonic() - begin
+        status = None if done.returncode in (137, -9) else done.returncode
+        return Ran(status, done.stdout, seconds, int(memory.read().split()[-1]))
 
 
 def numbers(report):
