@@ -1,47 +1,30 @@
-//! Formulas and systems over one sort with one relation of one argument.
-use fo_core::{Formula, Seq, Sig, Symbol, System, Term};
-use std::alloc::{AllocError, Global};
+//! Formulas over a relation of one argument.
+use crate::fixtures::list;
+use fo_core::{Formula, Term, all_over, some_over};
+use std::alloc::Global;
+use std::process::Abort;
 
-/// The relation at a variable.
-pub fn held(alloc: Global, x: u32) -> Result<Formula, AllocError> {
-    let mut args = Seq::new(alloc);
-    args.push(Term::Var(x))?;
-    Ok(Formula::Rel(0, 0, args))
+/// The relation of this number at a variable.
+pub fn held(rt: &impl Abort, alloc: Global, relation: u32, x: u32) -> Formula {
+    Formula::Rel(relation, 0, list(rt, alloc, [Term::Var(x)]))
 }
 
-/// The negation of that.
-pub fn not_held(alloc: Global, x: u32) -> Result<Formula, AllocError> {
-    Formula::not(alloc, held(alloc, x)?)
+/// The negation.
+pub fn not(rt: &impl Abort, alloc: Global, f: Formula) -> Formula {
+    Formula::not(alloc, f).expect(rt, "memory")
 }
 
 /// The two variables have different values.
-pub fn differ(alloc: Global, x: u32, y: u32) -> Result<Formula, AllocError> {
-    Formula::not(alloc, Formula::Eq(Term::Var(x), Term::Var(y)))
+pub fn differ(rt: &impl Abort, alloc: Global, x: u32, y: u32) -> Formula {
+    not(rt, alloc, Formula::Eq(Term::Var(x), Term::Var(y)))
 }
 
-/// One sort with the relation.
-pub fn signature(alloc: Global) -> Result<Sig, AllocError> {
-    let mut symbols = Seq::new(alloc);
-    symbols.push(Symbol {
-        relation: true,
-        mutable: true,
-        args: Seq::from_vec([0].to_vec(alloc)?),
-        result: 0,
-    })?;
-    Ok(Sig { sorts: 1, symbols })
+/// The formula for all values of its variables, which have these sorts.
+pub fn for_all(rt: &impl Abort, alloc: Global, sorts: &[u32], f: Formula) -> Formula {
+    all_over(alloc, sorts, f).expect(rt, "memory")
 }
 
-/// A system over it that begins with these formulas true, has no transitions, and is asked for this
-/// property.
-pub fn system(alloc: Global, inits: Seq<Formula>, safety: Formula) -> Result<System, AllocError> {
-    let mut safeties = Seq::new(alloc);
-    safeties.push(safety)?;
-    Ok(System {
-        sig: signature(alloc)?,
-        axioms: Seq::new(alloc),
-        inits,
-        steps: Seq::new(alloc),
-        safeties,
-        invariants: Seq::new(alloc),
-    })
+/// The formula for some values of its variables, which have these sorts.
+pub fn for_some(rt: &impl Abort, alloc: Global, sorts: &[u32], f: Formula) -> Formula {
+    some_over(alloc, sorts, f).expect(rt, "memory")
 }

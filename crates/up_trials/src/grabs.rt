@@ -1,89 +1,48 @@
 //! Systems in which nodes grab something, and at most one is to hold it.
-use crate::formulas::{held, not_held, system};
-use fo_core::{Boxed, Formula, Seq, Step, System, Table, Term, World, all_over};
-use std::alloc::{AllocError, Global};
+ghost use Rattle.up_diagram.specs.Cubes.{IsCube};
 
-/// The list of two formulas.
-fn two(alloc: Global, f: Formula, g: Formula) -> Result<Seq<Formula>, AllocError> {
-    let mut list = Seq::new(alloc);
-    list.push(f)?;
-    list.push(g)?;
-    Ok(list)
-}
+use crate::fixtures::state;
+use fo_core::{Sig, World};
+use std::alloc::Global;
+use std::process::Abort;
+use up_diagram::{Cube, diagram, has_few_elements};
 
-/// After the step the variable is held.
-fn held_next(alloc: Global, x: u32) -> Result<Formula, AllocError> {
-    let mut args = Seq::new(alloc);
-    args.push(Term::Var(x))?;
-    Ok(Formula::Rel(0, 1, args))
-}
+/// Nodes grab one after the other, whether or not another one holds it.
+pub const ANY_GRABS: &str = "sort node
+mutable relation held(node)
+init !held(N)
+transition grab(n: node)
+  modifies held
+  new(held(N)) <-> held(N) | N = n
+safety [one] held(N1) & held(N2) -> N1 = N2
+";
 
-/// Variable 1 is held, or it is variable 0.
-fn held_or_taken(alloc: Global) -> Result<Formula, AllocError> {
-    let same = Formula::Eq(Term::Var(1), Term::Var(0));
-    Ok(Formula::Or(two(alloc, held(alloc, 1)?, same)?))
-}
-
-/// After the step exactly those are held that were held before, and node 0.
-fn one_more(alloc: Global) -> Result<Formula, AllocError> {
-    let there = Formula::Or(two(
-        alloc,
-        Formula::not(alloc, held_next(alloc, 1)?)?,
-        held_or_taken(alloc)?,
-    )?);
-    let back = Formula::Or(two(
-        alloc,
-        held_next(alloc, 1)?,
-        Formula::not(alloc, held_or_taken(alloc)?)?,
-    )?);
-    let both = Formula::And(two(alloc, there, back)?);
-    Ok(Formula::All(0, Boxed::new(alloc, both)?))
-}
-
-/// A node grabs; with `free` only where none is held.
-fn grab(alloc: Global, free: bool) -> Result<Step, AllocError> {
-    let mut parts = Seq::new(alloc);
-    if free {
-        parts.push(Formula::All(0, Boxed::new(alloc, not_held(alloc, 1)?)?))?;
-    }
-    parts.push(one_more(alloc)?)?;
-    Ok(Step {
-        modifies: Seq::from_vec([0].to_vec(alloc)?),
-        params: Seq::from_vec([0].to_vec(alloc)?),
-        body: Formula::And(parts),
-    })
-}
-
-/// No two different nodes are held.
-fn at_most_one(alloc: Global) -> Result<Formula, AllocError> {
-    let mut parts = two(alloc, not_held(alloc, 0)?, not_held(alloc, 1)?)?;
-    parts.push(Formula::Eq(Term::Var(0), Term::Var(1)))?;
-    all_over(alloc, &[0, 0], Formula::Or(parts))
-}
-
-/// At first none is held, nodes grab one after the other, and at most one is to be held. With
-/// `free` a node grabs only where none is held.
-pub fn grabs(alloc: Global, free: bool) -> Result<System, AllocError> {
-    let mut inits = Seq::new(alloc);
-    inits.push(all_over(alloc, &[0], not_held(alloc, 0)?)?)?;
-    let mut sys = system(alloc, inits, at_most_one(alloc)?)?;
-    sys.steps.push(grab(alloc, free)?)?;
-    Ok(sys)
-}
+/// A node grabs only where none holds it.
+pub const FREE_GRABS: &str = "sort node
+mutable relation held(node)
+init !held(N)
+transition grab(n: node)
+  modifies held
+  & (forall M. !held(M))
+  & (new(held(N)) <-> held(N) | N = n)
+safety [one] held(N1) & held(N2) -> N1 = N2
+";
 
 /// The state of two nodes, both held.
-pub fn both_held(alloc: Global) -> Result<World, AllocError> {
-    let mut copy = Seq::new(alloc);
-    copy.push(Table {
-        values: Seq::from_vec([1, 1].to_vec(alloc)?),
-    })?;
-    let mut copies = Seq::new(alloc);
-    copies.push(copy)?;
-    Ok(World {
-        sizes: Seq::from_vec([2].to_vec(alloc)?),
-        fixed: Seq::new(alloc),
-        copies,
-    })
+pub fn both_held(rt: &impl Abort, alloc: Global) -> World {
+    state(rt, alloc, 2, &[1, 1])
+}
+
+/// The diagram of that state.
+pub fn two_held(rt: &impl Abort, alloc: Global, sig: &Sig) -> Cube
+    ensures { IsCube sig.now result }
+{
+    let w = both_held(rt, alloc);
+    assert!(rt; sig.is_well_sorted() && w.fits(sig));
+    assert!(rt; !w.copies.is_empty() && has_few_elements(&w));
+    let cube = diagram(alloc, sig, &w, 0).expect(rt, "memory");
+    assert!(rt; cube.is_well_sorted(sig));
+    cube
 }
 
 /// Whether the world is a step of two nodes, of which the second is held before and both after.

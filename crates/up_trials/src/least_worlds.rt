@@ -1,26 +1,17 @@
 use fo_core::{Query, Seq};
 use fo_min::{Excess, Least};
-use std::test::Fail;
 
 #[test]
-fn answers_are_copied(rt: HostRuntime) -> Result<(), Fail> {
+fn answers_are_copied(rt: HostRuntime) {
     let alloc = rt.alloc();
-    let over = Least::Over(Excess {
-        weight: 29,
-        query: Query {
-            copies: 1,
-            claims: Seq::new(alloc),
-        },
-    });
-    let copy = over.copy(alloc)?;
-    assert!(rt;
-        matches!(
-            copy,
-            Least::Over(Excess {
-                weight: 29,
-                query: _
-            })
-        )
-    );
-    Ok(())
+    let query = Query {
+        copies: 1,
+        claims: Seq::new(alloc),
+    };
+    let over = Least::Over(Excess { weight: 29, query });
+    let copy = over.copy(alloc).expect(&rt, "memory");
+    let Least::Over(excess) = copy else {
+        panic!(rt; "another answer")
+    };
+    assert_eq!(rt; excess.weight, 29);
 }

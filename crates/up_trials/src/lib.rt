@@ -1,5 +1,5 @@
-//! Tests of library calls that no case of the top call shows. They stand here and not in the crates of
-//! the calls, since a crate with tests is proved twice. This crate has nothing but tests.
+//! Tests of library calls that no case of the top call shows. They stand here and not in the crates
+//! of the calls, since a crate with tests is proved twice. This crate has nothing but tests.
 #![tactic(auto)]
 
 #[cfg(test)]
@@ -16,6 +16,8 @@ mod embeddings;
 mod files_and_sinks;
 #[cfg(test)]
 mod finding;
+#[cfg(test)]
+mod fixtures;
 #[cfg(test)]
 mod formulas;
 #[cfg(test)]

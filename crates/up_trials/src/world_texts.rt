@@ -1,68 +1,56 @@
-use fo_core::{Names, Seq, Sig, Symbol, Table, Text, World};
+use crate::fixtures::{held_signature, list, numbers, table};
+use fo_core::{Names, Seq, Text, World};
 use fo_text::{TextFault, world_read, world_text};
-use std::alloc::{AllocError, Global};
-use std::test::Fail;
+use std::alloc::Global;
+use std::process::Abort;
 
-/// One sort and a mutable relation over it.
-fn held(alloc: Global) -> Result<(Sig, Names), AllocError> {
-    let mut symbols = Seq::new(alloc);
-    symbols.push(Symbol {
-        relation: true,
-        mutable: true,
-        args: Seq::from_vec([0].to_vec(alloc)?),
-        result: 0,
-    })?;
-    let mut names = Names {
-        sorts: Seq::new(alloc),
-        symbols: Seq::new(alloc),
+/// The names of one sort and a relation.
+fn held_names(rt: &impl Abort, alloc: Global) -> Names {
+    let node = String::from_str(alloc, "node").expect(rt, "memory");
+    let held = String::from_str(alloc, "held").expect(rt, "memory");
+    Names {
+        sorts: list(rt, alloc, [Text::from_string(node)]),
+        symbols: list(rt, alloc, [Text::from_string(held)]),
         steps: Seq::new(alloc),
         definitions: Seq::new(alloc),
-    };
-    names
-        .sorts
-        .push(Text::from_string(String::from_str(alloc, "node")?))?;
-    names
-        .symbols
-        .push(Text::from_string(String::from_str(alloc, "held")?))?;
-    Ok((Sig { sorts: 1, symbols }, names))
+    }
 }
 
 const HELD: &[u8] = b"world 2\nsort node 2\nfixed\ncopy 0\nheld 0 0\ncopy 1\nheld 0 1\nend\n";
 
-#[test]
-fn a_world_made_by_hand_is_written(rt: HostRuntime) -> Result<(), Fail> {
-    let alloc = rt.alloc();
-    let (sig, names) = held(alloc)?;
-    assert!(rt; sig.is_well_sorted() && names.fit(&sig, 0));
-    let mut copies = Seq::new(alloc);
-    for values in [[0, 0], [0, 1]] {
-        let mut tables = Seq::new(alloc);
-        tables.push(Table {
-            values: Seq::from_vec(values.to_vec(alloc)?),
-        })?;
-        copies.push(tables)?;
-    }
-    let world = World {
-        sizes: Seq::from_vec([2].to_vec(alloc)?),
+/// The world of that text.
+fn world(rt: &impl Abort, alloc: Global) -> World {
+    let first = list(rt, alloc, [table(rt, alloc, &[0, 0])]);
+    let second = list(rt, alloc, [table(rt, alloc, &[0, 1])]);
+    World {
+        sizes: numbers(rt, alloc, &[2]),
         fixed: Seq::new(alloc),
-        copies,
-    };
-    assert!(rt; world.fits(&sig) && world.copies.len() < 1000);
-    let mut into = Vec::new(alloc);
-    world_text(alloc, &sig, &names, &world, &mut into)?;
-    assert_eq!(rt; into.as_slice(), HELD);
-    Ok(())
+        copies: list(rt, alloc, [first, second]),
+    }
 }
 
 #[test]
-fn a_cut_text_is_bad_at_its_end(rt: HostRuntime) -> Result<(), Fail> {
+fn a_world_made_by_hand_is_written(rt: HostRuntime) {
     let alloc = rt.alloc();
-    let (sig, names) = held(alloc)?;
+    let sig = held_signature(&rt, alloc);
+    let names = held_names(&rt, alloc);
+    let world = world(&rt, alloc);
+    assert!(rt; sig.is_well_sorted() && names.fit(&sig, 0));
+    assert!(rt; world.fits(&sig) && world.copies.len() < 1000);
+    let mut into = Vec::new(alloc);
+    world_text(alloc, &sig, &names, &world, &mut into).expect(&rt, "memory");
+    assert_eq!(rt; into.as_slice(), HELD);
+}
+
+#[test]
+fn a_cut_text_is_bad_at_its_end(rt: HostRuntime) {
+    let alloc = rt.alloc();
+    let sig = held_signature(&rt, alloc);
+    let names = held_names(&rt, alloc);
     assert!(rt; sig.is_well_sorted() && names.fit(&sig, 0));
     for len in 0..HELD.len() {
         let mut at = 0;
         let read = world_read(alloc, &sig, &names, &HELD[..len], &mut at);
         assert!(rt; matches!(read, Err(TextFault::Bad(place)) if place as usize == len));
     }
-    Ok(())
 }
