@@ -31,6 +31,8 @@ mod grounding;
 #[cfg(test)]
 mod least_worlds;
 #[cfg(test)]
+mod machine_events;
+#[cfg(test)]
 mod orders;
 #[cfg(test)]
 mod plain_search;
