@@ -118,7 +118,19 @@ impl Checked {
         ensures taken { IsTrue result → self.new ≡ record self.old { added = self.old.added ++ clause ∷ []; spare = self.old.spare - 1 } }
         ensures refused { IsFalse result → self.new ≡ self.old }
     {
-        let taken = self.follows(&clause);
+        self.add_by(clause, &[])
+    }
+
+    /// The same as `add`, which is found soonest where propagation over the clauses at these places
+    /// among those that are kept, one after the other, meets the conflict.
+    pub fn add_by(&mut self, clause: Clause, places: &[usize]) -> bool
+        requires room { 0 < self.old.spare }
+        requires within { IsWithin self.old.vars clause }
+        ensures exact { IsTrue result ↔ Follows (kept self.old) clause }
+        ensures taken { IsTrue result → self.new ≡ record self.old { added = self.old.added ++ clause ∷ []; spare = self.old.spare - 1 } }
+        ensures refused { IsFalse result → self.new ≡ self.old }
+    {
+        let taken = self.follows_by(&clause, places);
         if taken {
             self.keep(clause, false);
         }
@@ -134,9 +146,21 @@ impl Checked {
         ensures sound { IsTrue result → IsImplied self.old.given clause.now }
         ensures same { self.new ≡ self.old }
     {
+        self.follows_by(clause, &[])
+    }
+
+    /// The same as `follows`, which is found soonest where propagation over the clauses at these
+    /// places among those that are kept, one after the other, meets the conflict.
+    pub fn follows_by(&mut self, clause: &Clause, places: &[usize]) -> bool
+        requires { IsWithin self.old.vars clause.now }
+        ensures exact { IsTrue result ↔ Follows (kept self.old) clause.now }
+        ensures sound { IsTrue result → IsImplied self.old.given clause.now }
+        ensures same { self.new ≡ self.old }
+    {
         self.values.copy_from_slice(self.root.as_slice());
         follows(
             self.clauses.as_slice(),
+            places,
             clause.as_slice(),
             self.values.as_mut_slice(),
             &mut self.watches,
@@ -326,10 +350,11 @@ fn extend(clauses: &[Clause], root: &mut [Option<bool>], watches: &mut Watches)
     }
 }
 
-/// Whether `clause` follows from `clauses` by unit propagation. At the entry `values` are such as
-/// the clauses alone make true.
+/// Whether `clause` follows from `clauses` by unit propagation, which begins with the clauses at
+/// these places. At the entry `values` are such as the clauses alone make true.
 fn follows(
     clauses: &[Clause],
+    places: &[usize],
     clause: &[Lit],
     values: &mut [Option<bool>],
     watches: &mut Watches,
@@ -343,7 +368,7 @@ fn follows(
     if assume_negated(clause, values, watches) {
         return true;
     }
-    if watches.run(clauses, values) {
+    if watches.run_by(clauses, places, values) {
         return true;
     }
     propagate(clauses, values)

@@ -195,4 +195,26 @@ impl Watches {
         }
         false
     }
+
+    /// Looks at the clauses at these places, one after the other, propagates from there, and
+    /// answers whether some clause is false. One that is found is; none may be found where there
+    /// is one.
+    pub fn run_by(
+        &mut self,
+        clauses: &[Clause],
+        places: &[usize],
+        values: &mut [Option<bool>],
+    ) -> bool
+        requires { AreWithin (length values.old) clauses.now }
+        ensures grows { Grows values.old values.new }
+        ensures forced { OnlyForced clauses.now values.old values.new }
+        ensures conflict { IsTrue result → HasFalse clauses.now values.new }
+    {
+        for at in places {
+            if self.look(clauses, *at, values) {
+                return true;
+            }
+        }
+        self.run(clauses, values)
+    }
 }

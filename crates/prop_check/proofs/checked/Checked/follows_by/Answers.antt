@@ -1,7 +1,7 @@
 use Rattle.std.proofs.Common.{ap}
 use Rattle.prop_check.specs.Kept.{Kept, kept}
 use Rattle.prop_check.proofs.Sound.{exact_for, implied_by_given}
-use Rattle.prop_check.proofs.checked.Checked.follows.Goals as goal
+use Rattle.prop_check.proofs.checked.Checked.follows_by.Goals as goal
 
 pub returns-clause-exact : goal.returns-clause-exact
 returns-clause-exact c =
