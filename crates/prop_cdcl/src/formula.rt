@@ -65,8 +65,10 @@ fn refuted(alloc: Global, cnf: &Cnf, mut learner: Learner) -> Result<Answer, All
     let mut checked = Checked::new(alloc, cnf)?;
     let last = Clause::new(alloc);
     follows_from_learnt(alloc, &mut checked, &mut learner, &last)?;
+    let mut sources = Vec::new(alloc);
+    learner.last_sources(&mut sources)?;
     checked.reserve(1)?;
-    if checked.add(last) {
+    if checked.add_by(last, sources.as_slice()) {
         return Ok(Answer::Unsat(Refutation {
             clauses: checked.into_added(),
         }));

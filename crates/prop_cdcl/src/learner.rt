@@ -7,6 +7,22 @@ use std::alloc::{AllocError, Global};
 /// Conflicts of one question before plain search answers it.
 const MOST_CONFLICTS: usize = 1 << 20;
 
+/// Literals that stand in a clause itself, and take no memory beside it.
+const INSIDE: usize = 4;
+
+/// About the bytes that a clause takes here and in the check, with its places in the lists of both.
+const CLAUSE_BYTES: usize = 240;
+
+/// About the bytes that a literal takes that doesn't stand in its clause itself, here and in the
+/// check.
+const LITERAL_BYTES: usize = 24;
+
+/// About the bytes of a note of a clause from which another one was learnt.
+const SOURCE_BYTES: usize = 12;
+
+/// About the bytes that a variable takes here and in the check.
+const VARIABLE_BYTES: usize = 240;
+
 /// What a question came to, as far as the search knows.
 #[derive(Drop)]
 pub enum Outcome {
@@ -23,19 +39,44 @@ pub enum Outcome {
 pub struct Learner {
     /// The given and the learnt clauses, in the order in which they came.
     clauses: Vec<Clause>,
+    /// How many of their literals don't stand in the clauses themselves.
+    outside: usize,
     log: Log,
     search: Search,
+}
+
+/// How many literals of a clause don't stand in the clause itself.
+fn count_outside(clause: &Clause) -> usize {
+    let count = clause.len();
+    if count > INSIDE { count } else { 0 }
 }
 
 impl Learner {
     /// A search that was begun over these clauses goes on. The one error is out of memory.
     pub fn new(alloc: Global, search: Search, clauses: Vec<Clause>) -> Result<Learner, AllocError> {
         let log = Log::new(alloc, clauses.len())?;
+        let mut outside: usize = 0;
+        for clause in clauses.iter() {
+            outside = outside.saturating_add(count_outside(clause));
+        }
         Ok(Learner {
             clauses,
+            outside,
             log,
             search,
         })
+    }
+
+    /// About how many bytes it takes, and a check of the same clauses.
+    pub fn bytes(&self) -> usize {
+        let clauses = self.clauses.len().saturating_mul(CLAUSE_BYTES);
+        let outside = self.outside.saturating_mul(LITERAL_BYTES);
+        let sources = self.log.sources().saturating_mul(SOURCE_BYTES);
+        let variables = self.search.vars().saturating_mul(VARIABLE_BYTES);
+        clauses
+            .saturating_add(outside)
+            .saturating_add(sources)
+            .saturating_add(variables)
     }
 
     /// Adds `n` variables. After an error, which is out of memory, it is to be thrown away.
@@ -43,13 +84,16 @@ impl Learner {
         self.search.add_vars(n)
     }
 
-    /// Gives one more clause. After an error, which is out of memory, it is as it was.
+    /// Gives one more clause, which the check is given too. After an error, which is out of memory,
+    /// it is as it was.
     pub fn give(&mut self, clause: Clause) -> Result<(), AllocError> {
         self.clauses.reserve(1)?;
         self.log.reserve(0)?;
         self.search.reserve()?;
         self.search.give(clause.as_slice(), self.clauses.len());
-        self.log.push(true, &[]);
+        self.log.push(&[]);
+        self.log.keep(self.clauses.len());
+        self.outside = self.outside.saturating_add(count_outside(&clause));
         self.clauses.push_reserved(clause);
         Ok(())
     }
@@ -57,7 +101,7 @@ impl Learner {
     /// Asks for values under assumptions. After an error, which is out of memory, it is to be
     /// thrown away.
     pub fn ask(&mut self, alloc: Global, assumptions: &[Lit]) -> Result<Outcome, AllocError> {
-        self.search.begin(assumptions.len())?;
+        self.search.begin(assumptions)?;
         let event = self
             .search
             .run(alloc, self.clauses.as_slice(), assumptions)?;
@@ -93,7 +137,8 @@ impl Learner {
         self.clauses.reserve(1)?;
         self.log.reserve(self.search.used().len())?;
         self.search.reserve()?;
-        self.log.push(false, self.search.used());
+        self.log.push(self.search.used());
+        self.outside = self.outside.saturating_add(count_outside(&clause));
         self.clauses.push_reserved(clause);
         self.search.take(self.clauses.as_slice());
         Ok(())
@@ -123,6 +168,18 @@ impl Learner {
 
     /// The clause at a place was offered and taken.
     pub fn mark_offered(&mut self, at: usize) {
-        self.log.mark_offered(at);
+        self.log.keep(at);
+    }
+
+    /// Where the clauses stand in the check from which the one at a place was learnt, in the order
+    /// in which they show that it follows.
+    pub fn sources(&self, at: usize, found: &mut Vec<usize>) -> Result<(), AllocError> {
+        self.log.sources_in_check(at, found)
+    }
+
+    /// Where the clauses stand in the check from which the last outcome, which was `Denied`,
+    /// follows, in the order in which they show it.
+    pub fn last_sources(&self, found: &mut Vec<usize>) -> Result<(), AllocError> {
+        self.log.in_check(self.search.used(), found)
     }
 }

@@ -19,6 +19,7 @@ fn offer(
     ensures vars { checked.new.vars ≡ checked.old.vars }
     ensures given { checked.new.given ≡ checked.old.given }
 {
+    let mut sources = Vec::new(alloc);
     for at in places {
         let Some(clause) = learner.clause(*at) else {
             return Ok(false)
@@ -27,8 +28,9 @@ fn offer(
         if !copy.is_within(checked.vars()) {
             return Ok(false);
         }
+        learner.sources(*at, &mut sources)?;
         checked.reserve(1)?;
-        if !checked.add(copy) {
+        if !checked.add_by(copy, sources.as_slice()) {
             return Ok(false);
         }
         learner.mark_offered(*at);
@@ -52,7 +54,9 @@ fn follows_with(
     if !offer(alloc, checked, learner, places)? {
         return Ok(false);
     }
-    Ok(checked.follows(clause))
+    let mut sources = Vec::new(alloc);
+    learner.last_sources(&mut sources)?;
+    Ok(checked.follows_by(clause, sources.as_slice()))
 }
 
 /// Whether `clause` follows once the clauses on which the last outcome rests were offered, or else

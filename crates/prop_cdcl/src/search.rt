@@ -9,9 +9,11 @@ use std::alloc::{AllocError, Global};
 /// Conflicts before the first restart, and how many more before each later one.
 const RESTART: u64 = 100;
 
-/// Learnt clauses that are watched before idle ones leave the watches, and how many more each
-/// later time.
-const WATCHED: usize = 1000;
+/// Learnt clauses that are watched before idle ones leave the watches.
+const WATCHED: usize = 700;
+
+/// How many more of them may be watched each later time.
+const MORE: usize = 200;
 
 /// What the search came to.
 #[derive(Drop)]
@@ -80,14 +82,19 @@ pub struct Search {
     order: Order,
     analysis: Analysis,
     vars: u32,
+    /// What the present question assumes, or the last one. These make the first levels, as far as
+    /// they stand.
+    assumed: Vec<Lit>,
     /// Whether the clauses contradict each other without a decision.
     refuted: bool,
     /// Conflicts since the last restart, and how many are let pass before the next.
     conflicts: u64,
     limit: u64,
-    /// How many learnt clauses are watched, and how many of them there may be.
+    /// How many learnt clauses are watched, how many of them there may be, and how many more than
+    /// are left when idle ones leave the watches.
     watched: usize,
     most_watched: usize,
+    step: usize,
 }
 
 /// What the values of level 0 leave of this clause.
@@ -116,6 +123,47 @@ fn rest_of(clause: &[Lit], trail: &Trail) -> Rest {
     }
 }
 
+/// Two literals of the clause that aren't false.
+fn two_open(clause: &[Lit], trail: &Trail) -> Option<(Lit, Lit)> {
+    let mut first: Option<Lit> = None;
+    for lit in clause {
+        if !trail.is_false(*lit) {
+            match first {
+                None => first = Some(*lit),
+                Some(other) => {
+                    if other != *lit {
+                        return Some((other, *lit));
+                    }
+                }
+            }
+        }
+    }
+    None
+}
+
+/// The greatest level on which a literal of the clause became false.
+fn last_denied(clause: &[Lit], trail: &Trail) -> usize {
+    let mut level = 0;
+    for lit in clause {
+        if trail.is_false(*lit) {
+            level = level.max(trail.level_of(*lit));
+        }
+    }
+    level
+}
+
+/// How many assumptions the two questions begin with alike.
+fn count_shared(one: &[Lit], other: &[Lit]) -> usize {
+    let mut count: usize = 0;
+    for lit in one {
+        match other.get(count) {
+            Some(same) if *same == *lit => count = count.saturating_add(1),
+            _ => break,
+        }
+    }
+    count
+}
+
 impl Search {
     /// The search over these clauses.
     pub fn new(alloc: Global, vars: u32, clauses: &[Clause]) -> Result<Search, AllocError> {
@@ -126,11 +174,13 @@ impl Search {
             order: Order::new(alloc, vars as usize)?,
             analysis: Analysis::new(alloc, vars as usize)?,
             vars,
+            assumed: Vec::new(alloc),
             refuted: false,
             conflicts: 0,
             limit: RESTART,
             watched: 0,
             most_watched: WATCHED,
+            step: WATCHED,
         };
         search.lists.reserve(clauses.len())?;
         for (at, clause) in clauses.iter().enumerate() {
@@ -150,9 +200,15 @@ impl Search {
             }
             Rest::False => {
                 self.attach(None, Standing::Unwatched);
-                self.refuted = true;
+                self.refute(at);
             }
         }
+    }
+
+    /// The clause at a place is false without a decision.
+    fn refute(&mut self, at: usize) {
+        self.refuted = true;
+        self.analysis.refute(at);
     }
 
     /// The next clause is watched at these literals, if at any.
@@ -172,10 +228,42 @@ impl Search {
         self.lists.reserve(1)
     }
 
-    /// Takes one more given clause, for which there is room. All decisions are taken back.
+    /// Takes one more given clause, for which there is room. Decisions are taken back, and the
+    /// levels of assumptions that leave it fewer than two literals.
     pub fn give(&mut self, clause: &[Lit], at: usize) {
-        self.undo_to(0);
-        self.start(clause, at);
+        let assumptions = self.assumed.len();
+        self.undo_to(assumptions);
+        match self.make_open(clause) {
+            Some(pair) => self.attach(Some(pair), Standing::Given),
+            None => {
+                self.undo_to(0);
+                self.start(clause, at);
+            }
+        }
+    }
+
+    /// Takes levels back until two literals of the clause aren't false, and answers two such, where
+    /// it has more than level 0 leaves it.
+    fn make_open(&mut self, clause: &[Lit]) -> Option<(Lit, Lit)> {
+        for _ in 0..2 {
+            if self.trail.level() == 0 {
+                return None;
+            }
+            if let Some(pair) = two_open(clause, &self.trail) {
+                return Some(pair);
+            }
+            let below = last_denied(clause, &self.trail).checked_sub(1)?;
+            self.undo_to(below);
+        }
+        if self.trail.level() == 0 {
+            return None;
+        }
+        two_open(clause, &self.trail)
+    }
+
+    /// How many variables there are.
+    pub fn vars(&self) -> usize {
+        self.vars as usize
     }
 
     /// Adds `n` variables.
@@ -189,13 +277,19 @@ impl Search {
         Ok(())
     }
 
-    /// Begins a question under that many assumptions. All decisions are taken back.
-    pub fn begin(&mut self, assumptions: usize) -> Result<(), AllocError> {
-        self.undo_to(0);
+    /// Begins a question under these assumptions. The levels of those stay with which the last one
+    /// began too.
+    pub fn begin(&mut self, assumptions: &[Lit]) -> Result<(), AllocError> {
+        let shared = count_shared(self.assumed.as_slice(), assumptions);
+        self.undo_to(shared);
         self.conflicts = 0;
         self.limit = RESTART;
+        self.assumed.clear();
+        for lit in assumptions {
+            self.assumed.push(*lit)?;
+        }
         self.trail
-            .reserve_levels(assumptions.saturating_add(self.vars as usize))
+            .reserve_levels(assumptions.len().saturating_add(self.vars as usize))
     }
 
     /// The places of the clauses from which the last clause was learnt, or from which the last
@@ -230,7 +324,6 @@ impl Search {
         assumptions: &[Lit],
     ) -> Result<Event, AllocError> {
         if self.refuted {
-            self.analysis.empty_core();
             return Ok(Event::Denied);
         }
         self.tidy(assumptions.len());
@@ -252,7 +345,8 @@ impl Search {
     fn tidy(&mut self, assumptions: usize) {
         if self.watched >= self.most_watched {
             self.watched = self.let_go();
-            self.most_watched = self.watched.saturating_add(WATCHED);
+            self.step = self.step.saturating_add(MORE);
+            self.most_watched = self.watched.saturating_add(self.step);
         }
         if self.conflicts >= self.limit {
             self.conflicts = 0;
@@ -291,8 +385,7 @@ impl Search {
     ) -> Result<Event, AllocError> {
         self.conflicts = self.conflicts.saturating_add(1);
         if self.trail.level() == 0 {
-            self.refuted = true;
-            self.analysis.refute(conflict);
+            self.refute(conflict);
             return Ok(Event::Denied);
         }
         let learnt = self

@@ -73,6 +73,12 @@ impl Solver {
         self.checked.vars()
     }
 
+    /// About how many bytes it takes. No contract says how many: it is a hint of what throwing it
+    /// away would free.
+    pub fn bytes(&self) -> usize {
+        self.learner.bytes()
+    }
+
     /// Adds `n` variables. After an error, which is out of memory, the clauses and variables are
     /// what they were.
     pub fn add_vars(&mut self, n: u32) -> Result<(), AllocError>
