@@ -22,6 +22,9 @@ use std::marker::Model;
 /// How many clauses a context has at most when it is kept for the next query.
 const MOST_CLAUSES: usize = 200_000;
 
+/// About how many bytes a context takes at most when it is kept for the next query.
+const MOST_BYTES: usize = 48 << 20;
+
 /// How many claims a context has at most that the last query didn't ask for when it is kept.
 const MOST_IDLE: usize = 256;
 
@@ -104,10 +107,17 @@ impl Context {
         self.ground.is_for(symbols, copies)
     }
 
+    /// About how many bytes it takes.
+    pub fn bytes(&self) -> usize {
+        self.claims.solver.bytes()
+    }
+
     /// Whether it is worth its memory: it isn't large, and not much in it is switched off.
     pub fn is_kept(&self) -> bool {
         let kept = self.claims.kept.len();
-        self.claims.clauses <= MOST_CLAUSES && kept <= self.asked.saturating_add(MOST_IDLE)
+        self.claims.clauses <= MOST_CLAUSES
+            && self.bytes() <= MOST_BYTES
+            && kept <= self.asked.saturating_add(MOST_IDLE)
     }
 
     /// A world that meets the form, if there is one, and the context for the next query. After an

@@ -9,6 +9,10 @@ use std::alloc::{AllocError, Global};
 /// How many contexts are kept at most.
 const MOST_CONTEXTS: usize = 8;
 
+/// About how many bytes they take at most together. Each worker's finder keeps as much, beside the
+/// context that it asks.
+const MOST_BYTES: usize = 96 << 20;
+
 /// The contexts that were used last, the latest of them at the end.
 #[derive(Drop)]
 pub struct Contexts {
@@ -38,11 +42,34 @@ fn take(contexts: &mut Vec<Context>, symbols: &Sig, copies: u32) -> Option<Conte
     Some(contexts.remove(at))
 }
 
-/// Puts a context at the end, in place of the first one where there are many.
-fn put(contexts: &mut Vec<Context>, context: Context) -> Result<(), AllocError> {
-    if contexts.len() >= MOST_CONTEXTS {
+/// About how many bytes the contexts take.
+fn bytes_of(contexts: &[Context]) -> usize {
+    let mut bytes: usize = 0;
+    'each: for context in contexts {
+        bytes = bytes.saturating_add(context.bytes());
+    }
+    bytes
+}
+
+/// Whether one more context that takes this many bytes may be kept beside these.
+fn is_room(contexts: &[Context], bytes: usize) -> bool {
+    contexts.len() < MOST_CONTEXTS && bytes_of(contexts).saturating_add(bytes) <= MOST_BYTES
+}
+
+/// Lets the contexts go that were used first, until one more that takes this many bytes may be
+/// kept.
+fn make_room(contexts: &mut Vec<Context>, bytes: usize) {
+    for _ in 0..MOST_CONTEXTS {
+        if contexts.is_empty() || is_room(contexts.as_slice(), bytes) {
+            return;
+        }
         contexts.remove(0);
     }
+}
+
+/// Puts a context at the end, in place of the first ones where there are many or large ones.
+fn put(contexts: &mut Vec<Context>, context: Context) -> Result<(), AllocError> {
+    make_room(contexts, context.bytes());
     contexts.push(context)?;
     Ok(())
 }
