@@ -23,6 +23,8 @@ HEIGHT = 6
 SORTS, SYMBOLS, TRANSITIONS = 64, 256, 256
 ARGUMENTS, PARAMETERS, BINDERS, DISTINCT = 8, 16, 64, 16
 SORT_SIZE = 4_294_967_295
+# A model whose search keeps much, and ends above the greatest weight.
+RING = os.path.join(os.path.dirname(os.path.abspath(__file__)), "..", "examples", "ring.pyv")
 # The most constants of one sort with which a query of `heavy` stays within the greatest weight.
 CONSTANTS = 158
 
@@ -131,6 +133,10 @@ def runs():
     for workers in ("4", "16"):
         words = ["updr", "A", "--batch", "64", "--steps", "3", "--workers", workers]
         yield f"queries of a million, {workers} workers", words, many_heavy(100), None, {4}
+    with open(RING) as file:
+        ring = file.read()
+    for workers in ("4", "16"):
+        yield f"a long search, {workers} workers", ["updr", "A", "--workers", workers], ring, None, {5}
     # The last number of six bits is 63 steps away, that of seven bits 127.
     yield "frames", ["updr", "A", "--frames", "64"], counting(6), None, {1}
     yield "frames, more", ["updr", "A", "--frames", "64"], counting(7), None, {3}
