@@ -1,5 +1,5 @@
 -- What is appended in steps.
-use Rattle.std.proofs.Common.{◌≡◌, ℕ, Bool, ◌⊎◌, inl, inr, List, [], ◌∷◌, ◌++◌, append_assoc, append-nil, refl, sym, ap, ap₂, ◌∙◌, Ok, Err, Result, OnOk}
+use Rattle.std.proofs.Common.{◌≡◌, ℕ, ◌+◌, ◌<◌, Bool, ◌⊎◌, inl, inr, List, [], ◌∷◌, ◌++◌, length, get_or, drop, append_assoc, append-nil, refl, sym, ap, ap₂, ◌∙◌, Ok, Err, Result, OnOk}
 use Rattle.std.specs.declared.alloc.AllocError.{AllocError}
 use Rattle.fo_core.specs.declared.names.Names.{Names}
 use Rattle.fo_core.specs.declared.signature.Sig.{Sig}
@@ -11,10 +11,12 @@ use Rattle.pyv_meaning.specs.declared.variable.Meaning.{Meaning}
 use Rattle.pyv_meaning.specs.declared.variable.Meaning.TheVariants.{Variable, Unknown}
 use Rattle.pyv_meaning.specs.declared.variable.Side.{Side}
 use Rattle.pyv_meaning.specs.declared.variable.Use.{Use}
+use Rattle.pyv_meaning.specs.Closing.{frees}
 use Rattle.pyv_meaning.specs.Scope.{resolve}
 use Rattle.pyv_meaning.specs.Tree.{Name, Trees, none, more, bound_names}
 use Rattle.pyv_meaning.specs.Uses.{uses, each_uses, argument_uses, places, first_occurs, side, sides, equated, all_equated, binder_uses}
 use Rattle.pyv_meaning.specs.View.{word, binders_of, view, views}
+use Rattle.pyv_sorts.proofs.Naming.{front}
 use Rattle.pyv_sorts.proofs.Views.{view-Name, view-Distinct, view-Implies, view-Iff, view-Equal, view-Unequal, view-All, view-Ex, view-If}
 
 pub append_again : {A : Type 0} (a d e : List A) → (a ++ d) ++ e ≡ a ++ (d ++ e)
@@ -30,6 +32,12 @@ on_ok {X = X} {E = E} (Err e) P Q f h = h
 -- two steps are one
 pub two_steps : {A : Type 0} (a b c d e u : List A) → u ≡ d ++ e → b ≡ a ++ d → c ≡ b ++ e → c ≡ a ++ u
 two_steps {A = A} a b c d e u h i j = rw (j, i, h) (append_assoc a d e)
+
+-- A loop over a list has appended what is told of one more element: f tells what there is of the rest.
+pub gathers : {A X : Type 0} (f : List X → List A) (g : List A) (xs : List X) (i : ℕ) (x d : X) → i < length xs → get_or xs i d ≡ x → f (x ∷ drop (i + 1) xs) ≡ g ++ f (drop (i + 1) xs)
+    → (before now all : List A) → now ≡ before ++ g → before ++ f (drop i xs) ≡ all → now ++ f (drop (i + 1) xs) ≡ all
+gathers {A = A} {X = X} f g xs i x d lt at step before now all e h =
+    ap (λ ys. ys ++ f (drop (i + 1) xs)) e ∙ append_assoc before g (f (drop (i + 1) xs)) ∙ ap (λ ys. before ++ ys) (sym (ap f (front xs i x d lt at) ∙ step)) ∙ h
 
 pub no_places : (names : Names) (sig : Sig) (xs : Trees) (scope : List Name) → argument_uses names sig xs [] scope ≡ []
 no_places names sig none scope = refl
@@ -80,3 +88,34 @@ module _ (names : Names) (sig : Sig) (bytes : List ℕ) (scope : List Name) wher
   pub of_conditional : (t x y z xv yv zv : Expr) (p : ℕ) (s1 s2 : List Name) → t ≡ E.If p x y z → xv ≡ x → yv ≡ y → zv ≡ z → s1 ≡ scope → s2 ≡ scope
       → told t ≡ told xv ++ (uses names sig (view bytes yv) s1 ++ uses names sig (view bytes zv) s2)
   of_conditional t x y z xv yv zv p s1 s2 e a b c i j = rw (e, a, b, c, i, j) (ap (λ w. uses names sig w scope) (view-If bytes p x y z))
+
+module _ (names : Names) (bytes : List ℕ) (scope : List Name) where
+  abbrev free_in : Expr → List Name
+  free_in x = frees names (view bytes x) scope
+
+  pub frees_pair : (t x y xv yv : Expr) (s : List Name)
+      → ((p : ℕ) × (t ≡ E.Implies p x y)) ⊎ ((p : ℕ) × (t ≡ E.Iff p x y)) ⊎ ((p : ℕ) × (t ≡ E.Equal p x y)) ⊎ ((p : ℕ) × (t ≡ E.Unequal p x y)) → xv ≡ x → yv ≡ y → s ≡ scope
+      → free_in t ≡ free_in xv ++ frees names (view bytes yv) s
+  frees_pair t x y xv yv s h f g i =
+      elim h [
+        | inl k ↦ rw (k.1, f, g, i) (ap (λ z. frees names z scope) (view-Implies bytes k.0 x y))
+        | inr r ↦ elim r [
+          | inl k ↦ rw (k.1, f, g, i) (ap (λ z. frees names z scope) (view-Iff bytes k.0 x y))
+          | inr q ↦ elim q [
+            | inl k ↦ rw (k.1, f, g, i) (ap (λ z. frees names z scope) (view-Equal bytes k.0 x y))
+            | inr k ↦ rw (k.1, f, g, i) (ap (λ z. frees names z scope) (view-Unequal bytes k.0 x y))
+          ]
+        ]
+      ]
+
+  pub frees_quantified : (t x xv : Expr) (bs cs : List Bound) (s : List Name) → ((p : ℕ) × (t ≡ E.All p bs x)) ⊎ ((p : ℕ) × (t ≡ E.Ex p bs x)) → xv ≡ x → cs ≡ bs
+      → s ≡ scope ++ bound_names (binders_of bytes cs) → free_in t ≡ frees names (view bytes xv) s
+  frees_quantified t x xv bs cs s h a b i =
+      elim h [
+        | inl m ↦ rw (m.1, i, a, b) (ap (λ z. frees names z scope) (view-All bytes m.0 bs x))
+        | inr m ↦ rw (m.1, i, a, b) (ap (λ z. frees names z scope) (view-Ex bytes m.0 bs x))
+      ]
+
+  pub frees_conditional : (t x y z xv yv zv : Expr) (p : ℕ) (s1 s2 : List Name) → t ≡ E.If p x y z → xv ≡ x → yv ≡ y → zv ≡ z → s1 ≡ scope → s2 ≡ scope
+      → free_in t ≡ free_in xv ++ (frees names (view bytes yv) s1 ++ frees names (view bytes zv) s2)
+  frees_conditional t x y z xv yv zv p s1 s2 e a b c i j = rw (e, a, b, c, i, j) (ap (λ w. frees names w scope) (view-If bytes p x y z))

@@ -181,6 +181,11 @@ pub room_same : (have : List (List ℕ)) (front : List Item) → have ≡ words 
 room_same have front e p rest =
     ap (λ (n : ℕ). unless (nat_lt n 256) (TooMany p) then rest) (ap length e ∙ length-map (symbol_names front) (λ (n : Name). n.word) ∙ length-map (symbols front) (λ (s : SymbolItem). s.name))
 
+pub same_count : (ws : List (List ℕ)) (items : List Item) (d : Declared) → IsNoted ws items d → length d.symbols ≡ length d.names
+same_count ws items d n =
+    ap length n.has_symbols ∙ length-map (symbols items) (symbol_by ws)
+    ∙ sym (ap length n.has_names ∙ length-map (symbol_names items) (λ (m : Name). m.word) ∙ length-map (symbols items) (λ (s : SymbolItem). s.name))
+
 -- ---- the sorts that are gathered
 
 some_number : (ws : List (List ℕ)) (v w : List ℕ) → is_some (number (v ∷ ws) w) ≡ (bytes_eq v w || is_some (number ws w))

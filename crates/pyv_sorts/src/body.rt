@@ -7,9 +7,9 @@ ghost use Rattle.fo_core.specs.declared.formula.Formula.TheVariants as F;
 ghost use Rattle.pyv_meaning.specs.Tree.{Name, Universal, bound_names};
 ghost use Rattle.pyv_meaning.specs.View.{binders_of, views};
 ghost use Rattle.pyv_sorts.specs.Closures.{part_names};
-ghost use Rattle.pyv_sorts.specs.Inferring.{sort_in};
+ghost use Rattle.pyv_sorts.specs.Inferring.{sort_in, AreSorted, IsUnsorted};
 ghost use Rattle.pyv_sorts.specs.Elaborating.{body_of, IsElaborated, IsPartsFault, OrMemory};
-ghost use Rattle.pyv_sorts.specs.Parts.{HasParts, faults_in, uses_in, clash_in, formulas_in, ArePartsBuilt, IsFaultOfParts};
+ghost use Rattle.pyv_sorts.specs.Parts.{HasParts, faults_in, uses_in, clash_in, formulas_in, closures_in, ArePartsBuilt, IsFaultOfParts};
 ghost use Rattle.pyv_sorts.specs.Placing.{names_in};
 ghost use Rattle.pyv_sorts.specs.Tells.{Tells};
 
@@ -187,11 +187,76 @@ fn sorts_of_params(
     Ok(found)
 }
 
+/// The sorts of the variables of a body, or the first variable that has none or two. The scope has
+/// the parameters.
+fn sorts_of_body<'a>(
+    alloc: Global,
+    known: &Known<'a>,
+    params: &[Bound],
+    scope: &mut Scope<'a>,
+    closures: &[Part<'a>],
+    parts: &[Expr],
+) -> Result<IndexMap<u32, u32>, SortFault>
+    ensures sorted { IfOk result (λ found. AreSorted (binder_uses known.now.names (binders_of known.now.bytes params.now) ++ uses_in known.now.names known.now.sig scope.old (views known.now.bytes parts.now) (part_names closures.now)) (sort_in found)) }
+    ensures fault { IfErr result (IsUnsorted (binder_uses known.now.names (binders_of known.now.bytes params.now) ++ uses_in known.now.names known.now.sig scope.old (views known.now.bytes parts.now) (part_names closures.now))) }
+    ensures scope { OnOk result (scope.new ≡ scope.old) }
+{
+    let told = uses_of_body(alloc, known, params, scope, closures, parts)?;
+    infer(alloc, told.as_slice())
+}
+
 /// The sorts of the parameters of a body, and the formulas of its parts.
 #[derive(Drop)]
 struct Parts {
     params: Seq<u32>,
     formulas: Seq<Formula>,
+}
+
+/// What the parts are built to, or their first clash. The scope has the parameters.
+fn built<'a>(
+    alloc: Global,
+    known: &Known<'a>,
+    sorts: &IndexMap<u32, u32>,
+    params: &[Bound],
+    scope: &mut Scope<'a>,
+    closures: &[Part<'a>],
+    parts: &[Expr],
+) -> Result<Parts, SortFault>
+    ensures clash { Tells result (clash_in known.now.names known.now.sig (sort_in sorts.now) scope.old (views known.now.bytes parts.now) (part_names closures.now)) }
+    ensures params { IfOk result (λ p. p.params ≡ map (λ (n : Name). sort_in sorts.now n.place) (bound_names (binders_of known.now.bytes params.now))) }
+    ensures formulas { IfOk result (λ p. p.formulas ≡ formulas_in known.now.names known.now.sig (sort_in sorts.now) scope.old (views known.now.bytes parts.now) (part_names closures.now)) }
+{
+    clash_of_parts(known, sorts, scope, closures, parts)?;
+    let params = sorts_of_params(alloc, known, sorts, params)?;
+    let formulas = formulas_of_parts(alloc, known, sorts, scope, closures, parts)?;
+    Ok(Parts { params, formulas })
+}
+
+/// The parts of a body, each closed by itself over these variables, or the first fault. The scope
+/// has the parameters.
+fn elaborate_closed<'a>(
+    alloc: Global,
+    known: &Known<'a>,
+    step: bool,
+    params: &[Bound],
+    scope: &mut Scope<'a>,
+    closures: &[Part<'a>],
+    parts: &[Expr],
+) -> Result<Parts, SortFault>
+    requires scope { scope.old ≡ bound_names (binders_of known.now.bytes params.now) }
+    requires closures { part_names closures.now ≡ closures_in known.now.names known.now.sig (binders_of known.now.bytes params.now) (views known.now.bytes parts.now) }
+    ensures found { IfOk result (λ p. ArePartsBuilt known.now.names known.now.sig step (binders_of known.now.bytes params.now) (views known.now.bytes parts.now) p.params p.formulas) }
+    ensures fault { IfErr result (OrMemory (IsFaultOfParts known.now.names known.now.sig step (binders_of known.now.bytes params.now) (views known.now.bytes parts.now))) }
+{
+    let stand = Stand {
+        step,
+        ahead: false,
+        formula: true,
+        over: false,
+    };
+    names_of_parts(known, stand, scope, closures, parts)?;
+    let sorts = sorts_of_body(alloc, known, params, scope, closures, parts)?;
+    built(alloc, known, &sorts, params, scope, closures, parts)
 }
 
 /// The parts of a body, each closed by itself, or the first fault.
@@ -205,23 +270,18 @@ fn elaborate_parts(
     ensures found { IfOk result (λ p. ArePartsBuilt known.now.names known.now.sig step (binders_of known.now.bytes params.now) (views known.now.bytes parts.now) p.params p.formulas) }
     ensures fault { IfErr result (OrMemory (IsFaultOfParts known.now.names known.now.sig step (binders_of known.now.bytes params.now) (views known.now.bytes parts.now))) }
 {
-    let stand = Stand {
-        step,
-        ahead: false,
-        formula: true,
-        over: false,
-    };
     let mut scope = Scope::new(alloc);
     enter(known, &mut scope, params)?;
     let closures = closures(alloc, known, &mut scope, parts)?;
-    let closures = closures.as_slice();
-    names_of_parts(known, stand, &mut scope, closures, parts)?;
-    let told = uses_of_body(alloc, known, params, &mut scope, closures, parts)?;
-    let sorts = infer(alloc, told.as_slice())?;
-    clash_of_parts(known, &sorts, &mut scope, closures, parts)?;
-    let formulas = formulas_of_parts(alloc, known, &sorts, &mut scope, closures, parts)?;
-    let params = sorts_of_params(alloc, known, &sorts, params)?;
-    Ok(Parts { params, formulas })
+    elaborate_closed(
+        alloc,
+        known,
+        step,
+        params,
+        &mut scope,
+        closures.as_slice(),
+        parts,
+    )
 }
 
 /// The first of the formulas; truth where there is none.

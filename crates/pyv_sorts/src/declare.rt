@@ -251,6 +251,16 @@ impl<'a> Declared<'a> {
 }
 
 impl<'a> Declared<'a> {
+    /// What is noted, with the names of all sorts of the file.
+    fn into_known(self, bytes: &'a [u8], sorts: Words<'a>) -> Known<'a>
+        requires { length self.symbols ≡ length self.names }
+        ensures bytes { result.bytes ≡ bytes.now }
+        ensures names { result.names ≡ record { sorts = sorts.entry; symbols = self.entry.names; steps = self.entry.steps; definitions = [] } }
+        ensures sig { result.sig ≡ record { sorts = length sorts.entry; symbols = self.entry.symbols } }
+    {
+        Known::new(bytes, sorts, self.names, self.symbols, self.steps)
+    }
+
     /// Notes the declarations of a file that declares these sorts.
     fn add_all(
         &mut self,
@@ -271,6 +281,27 @@ impl<'a> Declared<'a> {
     }
 }
 
+/// What is noted of the declarations of a file that declares these sorts, or their first fault.
+fn noted<'a>(
+    alloc: Global,
+    sorts: &Words<'_>,
+    bytes: &'a [u8],
+    decls: &[Decl],
+) -> Result<Declared<'a>, SortFault>
+    requires { Knows sorts.now (items_of bytes.now decls.now) }
+    ensures tells { Tells result (declared_fault (items_of bytes.now decls.now) [] (items_of bytes.now decls.now)) }
+    ensures noted { IfOk result (λ d. IsNoted sorts.now (items_of bytes.now decls.now) d) }
+{
+    let mut noted = Declared {
+        sorts: Words::new(alloc),
+        names: Words::new(alloc),
+        symbols: Seq::new(alloc),
+        steps: Words::new(alloc),
+    };
+    noted.add_all(alloc, sorts, bytes, decls)?;
+    Ok(noted)
+}
+
 /// What a model declares, or the first fault of its declarations.
 pub fn known_of<'a>(alloc: Global, bytes: &'a [u8], decls: &[Decl]) -> Result<Known<'a>, SortFault>
     ensures tells { Tells result (declared_fault (items_of bytes.now decls.now) [] (items_of bytes.now decls.now)) }
@@ -279,18 +310,6 @@ pub fn known_of<'a>(alloc: Global, bytes: &'a [u8], decls: &[Decl]) -> Result<Kn
     ensures sig { IfOk result (λ k. k.sig ≡ sig_in (items_of bytes.now decls.now)) }
 {
     let sorts = sort_names(alloc, bytes, decls)?;
-    let mut known = Declared {
-        sorts: Words::new(alloc),
-        names: Words::new(alloc),
-        symbols: Seq::new(alloc),
-        steps: Words::new(alloc),
-    };
-    known.add_all(alloc, &sorts, bytes, decls)?;
-    let Declared {
-        sorts: _,
-        names,
-        symbols,
-        steps,
-    } = known;
-    Ok(Known::new(bytes, sorts, names, symbols, steps))
+    let noted = noted(alloc, &sorts, bytes, decls)?;
+    Ok(noted.into_known(bytes, sorts))
 }

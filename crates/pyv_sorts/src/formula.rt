@@ -2,9 +2,10 @@
 
 ghost use Rattle.std.specs.Prelude.{◌≡◌, ◌++◌, ◌∷◌, [], false, map, IfOk, OnOk};
 ghost use Rattle.fo_core.specs.declared.formula.Formula.TheVariants as F;
-ghost use Rattle.pyv_meaning.specs.Builds.{connected, conditional as conditional_of, compared, differ, closed_over, copy_of as copy_at, named_term, named_formula, term_of, terms_of, formula_of, formulas_of};
+ghost use Rattle.pyv_meaning.specs.Builds.{connected, compared, differ, closed_over, copy_of as copy_at, named_term, named_formula, term_of, terms_of, formula_of, formulas_of};
 ghost use Rattle.pyv_meaning.specs.Tree.{Implication, Equivalence, Universal, Existential, bound_names};
-ghost use Rattle.pyv_meaning.specs.View.{binders_of, view, views};
+ghost use Rattle.pyv_meaning.specs.Scope.{resolve};
+ghost use Rattle.pyv_meaning.specs.View.{binders_of, view, views, word};
 ghost use Rattle.pyv_sorts.specs.Building.{quantifier_of};
 ghost use Rattle.pyv_sorts.specs.Inferring.{sort_in};
 ghost use Rattle.pyv_sorts.specs.Vocabulary.{InRange};
@@ -15,6 +16,7 @@ use crate::known::Known;
 use crate::scope::Scope;
 use fo_core::{Boxed, Formula, Seq, Term};
 use indexmap::IndexMap;
+use pv_base::Span;
 use pyv_grammar::{Bound, Expr};
 use pyv_meaning::Meaning;
 use std::alloc::{AllocError, Global};
@@ -57,8 +59,8 @@ fn implies(alloc: Global, f: Formula, g: Formula) -> Result<Formula, AllocError>
 fn implied(alloc: Global, f: &Formula, g: &Formula) -> Result<Formula, AllocError>
     ensures { IfOk result (λ h. h ≡ F.Or (f.now ∷ F.Not g.now ∷ [])) }
 {
-    let left = f.copy(alloc)?;
     let right = not(alloc, g.copy(alloc)?)?;
+    let left = f.copy(alloc)?;
     Ok(Formula::Or(two(alloc, left, right)?))
 }
 
@@ -69,16 +71,6 @@ fn iff(alloc: Global, f: Formula, g: Formula) -> Result<Formula, AllocError>
     let back = implied(alloc, &f, &g)?;
     let forth = implies(alloc, f, g)?;
     Ok(Formula::And(two(alloc, forth, back)?))
-}
-
-/// The second where the first holds, and the third where it doesn't.
-fn conditional(alloc: Global, c: Formula, f: Formula, g: Formula) -> Result<Formula, AllocError>
-    ensures { IfOk result (λ h. h ≡ conditional_of c f g) }
-{
-    let condition = c.copy(alloc)?;
-    let with = implies(alloc, c, f)?;
-    let without = Formula::Or(two(alloc, condition, g)?);
-    Ok(Formula::And(two(alloc, with, without)?))
 }
 
 /// The terms differ.
@@ -194,6 +186,43 @@ fn terms(
     Ok(built)
 }
 
+/// What an application or a name means as a formula.
+fn application(
+    alloc: Global,
+    known: &Known<'_>,
+    ahead: bool,
+    scope: &Scope<'_>,
+    name: Span,
+    args: &[Expr],
+) -> Result<Formula, AllocError>
+    ensures { IfOk result (λ f. f ≡ named_formula known.now.names known.now.sig (resolve known.now.names scope.now (word known.now.bytes name)) ahead (terms_of known.now.names known.now.sig (views known.now.bytes args.now) ahead scope.now)) }
+{
+    let args = terms(alloc, known, ahead, scope, args)?;
+    Ok(applied(known, known.meaning(scope, name), ahead, args))
+}
+
+/// The terms are equal.
+fn equality(
+    alloc: Global,
+    known: &Known<'_>,
+    ahead: bool,
+    scope: &Scope<'_>,
+    one: &Expr,
+    other: &Expr,
+) -> Result<Formula, AllocError>
+    ensures { IfOk result (λ f. f ≡ F.Eq (term_of known.now.names known.now.sig (view known.now.bytes one.now) ahead scope.now) (term_of known.now.names known.now.sig (view known.now.bytes other.now) ahead scope.now)) }
+{
+    let left = term(alloc, known, ahead, scope, one)?;
+    Ok(Formula::Eq(left, term(alloc, known, ahead, scope, other)?))
+}
+
+/// A condition, and that it implies what holds with it.
+#[derive(Drop)]
+struct Branch {
+    condition: Formula,
+    with: Formula,
+}
+
 /// The formula that an expression means, inside `new` or not. Truth stands for what is no formula.
 #[cycle(building)]
 pub fn formula<'a>(
@@ -211,8 +240,7 @@ pub fn formula<'a>(
         Expr::True(_) => Ok(Formula::True),
         Expr::False(_) => Ok(Formula::False),
         Expr::Name(name, _, args) => {
-            let args = terms(alloc, known, ahead, scope, args.as_slice())?;
-            Ok(applied(known, known.meaning(scope, *name), ahead, args))
+            application(alloc, known, ahead, scope, *name, args.as_slice())
         }
         Expr::New(_, x) => formula(alloc, known, sorts, true, scope, x.get()),
         Expr::Distinct(_, trees) => {
@@ -231,23 +259,19 @@ pub fn formula<'a>(
             Ok(Formula::Or(built))
         }
         Expr::Implies(_, x, y) => {
-            let f = formula(alloc, known, sorts, ahead, scope, x.get())?;
-            let g = formula(alloc, known, sorts, ahead, scope, y.get())?;
-            implies(alloc, f, g)
+            let premise = formula(alloc, known, sorts, ahead, scope, x.get())?;
+            implication(alloc, known, sorts, ahead, scope, y.get(), premise)
         }
         Expr::Iff(_, x, y) => {
-            let f = formula(alloc, known, sorts, ahead, scope, x.get())?;
-            let g = formula(alloc, known, sorts, ahead, scope, y.get())?;
-            iff(alloc, f, g)
+            let left = formula(alloc, known, sorts, ahead, scope, x.get())?;
+            equivalence(alloc, known, sorts, ahead, scope, y.get(), left)
         }
-        Expr::Equal(_, x, y) => {
-            let left = term(alloc, known, ahead, scope, x.get())?;
-            Ok(Formula::Eq(left, term(alloc, known, ahead, scope, y.get())?))
-        }
+        Expr::Equal(_, x, y) => { equality(alloc, known, ahead, scope, x.get(), y.get()) }
         Expr::Unequal(_, x, y) => {
-            let left = term(alloc, known, ahead, scope, x.get())?;
-            let right = term(alloc, known, ahead, scope, y.get())?;
-            not(alloc, Formula::Eq(left, right))
+            not(
+                alloc,
+                equality(alloc, known, ahead, scope, x.get(), y.get())?,
+            )
         }
         Expr::All(_, bounds, x) => {
             let level = scope.len();
@@ -264,12 +288,90 @@ pub fn formula<'a>(
             quantified(alloc, known, sorts, false, bounds.as_slice(), body)
         }
         Expr::If(_, x, y, z) => {
-            let c = formula(alloc, known, sorts, ahead, scope, x.get())?;
-            let f = formula(alloc, known, sorts, ahead, scope, y.get())?;
-            let g = formula(alloc, known, sorts, ahead, scope, z.get())?;
-            conditional(alloc, c, f, g)
+            let condition = formula(alloc, known, sorts, ahead, scope, x.get())?;
+            let branch = with_condition(alloc, known, sorts, ahead, scope, y.get(), condition)?;
+            without_condition(alloc, known, sorts, ahead, scope, z.get(), branch)
         }
     }
+}
+
+/// The premise implies what the expression means.
+#[cycle(building)]
+fn implication<'a>(
+    alloc: Global,
+    known: &Known<'a>,
+    sorts: &IndexMap<u32, u32>,
+    ahead: bool,
+    scope: &mut Scope<'a>,
+    tree: &Expr,
+    premise: Formula,
+) -> Result<Formula, AllocError>
+    ensures formula { IfOk result (λ h. h ≡ connected Implication premise (formula_of known.now.names known.now.sig (sort_in sorts.now) (view known.now.bytes tree.now) ahead scope.old)) }
+    ensures scope { OnOk result (scope.new ≡ scope.old) }
+{
+    let conclusion = formula(alloc, known, sorts, ahead, scope, tree)?;
+    implies(alloc, premise, conclusion)
+}
+
+/// Both hold or neither, of the formula and of what the expression means.
+#[cycle(building)]
+fn equivalence<'a>(
+    alloc: Global,
+    known: &Known<'a>,
+    sorts: &IndexMap<u32, u32>,
+    ahead: bool,
+    scope: &mut Scope<'a>,
+    tree: &Expr,
+    left: Formula,
+) -> Result<Formula, AllocError>
+    ensures formula { IfOk result (λ h. h ≡ connected Equivalence left (formula_of known.now.names known.now.sig (sort_in sorts.now) (view known.now.bytes tree.now) ahead scope.old)) }
+    ensures scope { OnOk result (scope.new ≡ scope.old) }
+{
+    let right = formula(alloc, known, sorts, ahead, scope, tree)?;
+    iff(alloc, left, right)
+}
+
+/// What the expression means holds with the condition.
+#[cycle(building)]
+fn with_condition<'a>(
+    alloc: Global,
+    known: &Known<'a>,
+    sorts: &IndexMap<u32, u32>,
+    ahead: bool,
+    scope: &mut Scope<'a>,
+    tree: &Expr,
+    condition: Formula,
+) -> Result<Branch, AllocError>
+    ensures condition { IfOk result (λ b. b.condition ≡ condition) }
+    ensures with { IfOk result (λ b. b.with ≡ connected Implication condition (formula_of known.now.names known.now.sig (sort_in sorts.now) (view known.now.bytes tree.now) ahead scope.old)) }
+    ensures scope { OnOk result (scope.new ≡ scope.old) }
+{
+    let kept = condition.copy(alloc)?;
+    let with = implication(alloc, known, sorts, ahead, scope, tree, condition)?;
+    Ok(Branch {
+        condition: kept,
+        with,
+    })
+}
+
+/// What the expression means holds without the condition.
+#[cycle(building)]
+fn without_condition<'a>(
+    alloc: Global,
+    known: &Known<'a>,
+    sorts: &IndexMap<u32, u32>,
+    ahead: bool,
+    scope: &mut Scope<'a>,
+    tree: &Expr,
+    branch: Branch,
+) -> Result<Formula, AllocError>
+    ensures formula { IfOk result (λ h. h ≡ F.And (branch.with ∷ F.Or (branch.condition ∷ (formula_of known.now.names known.now.sig (sort_in sorts.now) (view known.now.bytes tree.now) ahead scope.old) ∷ []) ∷ [])) }
+    ensures scope { OnOk result (scope.new ≡ scope.old) }
+{
+    let Branch { condition, with } = branch;
+    let other = formula(alloc, known, sorts, ahead, scope, tree)?;
+    let without = Formula::Or(two(alloc, condition, other)?);
+    Ok(Formula::And(two(alloc, with, without)?))
 }
 
 #[cycle(building)]

@@ -269,6 +269,17 @@ fn closures_over<'a>(
     Ok(closures)
 }
 
+/// For each part, the free variables of all parts that the part names, each by its first occurrence
+/// in the parts and in the order of these.
+fn closures_of_frees<'a>(alloc: Global, parts: &[Part<'a>]) -> Result<Vec<Part<'a>>, AllocError>
+    ensures { IfOk result (λ ps. part_names ps.items ≡ closures_of (part_names parts.now)) }
+{
+    let mut words = Words::new(alloc);
+    let mut firsts = Vec::new(alloc);
+    note_parts(&mut words, &mut firsts, parts)?;
+    closures_over(alloc, &words, firsts.as_slice(), parts)
+}
+
 /// For each part of a body, the free variables of the body that the part names, each by its first
 /// occurrence in the body and in the order of these. The scope has the parameters.
 pub fn closures<'a>(
@@ -281,8 +292,5 @@ pub fn closures<'a>(
     ensures scope { OnOk result (scope.new ≡ scope.old) }
 {
     let found = frees_of_parts(alloc, known, scope, parts)?;
-    let mut words = Words::new(alloc);
-    let mut firsts = Vec::new(alloc);
-    note_parts(&mut words, &mut firsts, found.as_slice())?;
-    closures_over(alloc, &words, firsts.as_slice(), found.as_slice())
+    closures_of_frees(alloc, found.as_slice())
 }

@@ -1,6 +1,6 @@
 //! The sorts of variables, by classes of variables that are said to be alike.
 
-ghost use Rattle.std.specs.Prelude.{◌≡◌, ◌<◌, ℕ, length, slice_index_or, IfOk, IfErr, []};
+ghost use Rattle.std.specs.Prelude.{◌≡◌, ◌<◌, ℕ, length, slice_index_or, IfOk, IfErr, OnOk, []};
 ghost use Rattle.pyv_meaning.specs.Gets.{Among};
 ghost use Rattle.pyv_sorts.specs.Classes.{Falls, Leads};
 ghost use Rattle.pyv_sorts.specs.Inferring.{named, place_in, mark, Classing, sort_in, AreSorted, IsUnsorted};
@@ -12,11 +12,10 @@ use indexmap::{IndexMap, IndexSet};
 use pyv_meaning::{SortFault, Use};
 use std::alloc::{AllocError, Global};
 
-/// The variables that the uses name, each once.
-fn variables(alloc: Global, uses: &[Use]) -> Result<IndexSet<u32>, AllocError>
-    ensures { IfOk result (λ s. (v : ℕ) → Among v (named uses.now) → Among v s.keys) }
+/// Adds the variables that the uses name, each once.
+fn add_variables(found: &mut IndexSet<u32>, uses: &[Use]) -> Result<(), AllocError>
+    ensures { OnOk result ((v : ℕ) → Among v (named uses.now) → Among v found.new.keys) }
 {
-    let mut found = IndexSet::new(alloc);
     'each: for told in uses {
         match told {
             Use::Binder(v) | Use::Is(v, _) => {
@@ -28,6 +27,15 @@ fn variables(alloc: Global, uses: &[Use]) -> Result<IndexSet<u32>, AllocError>
             }
         }
     }
+    Ok(())
+}
+
+/// The variables that the uses name, each once.
+fn variables(alloc: Global, uses: &[Use]) -> Result<IndexSet<u32>, AllocError>
+    ensures { IfOk result (λ s. (v : ℕ) → Among v (named uses.now) → Among v s.keys) }
+{
+    let mut found = IndexSet::new(alloc);
+    add_variables(&mut found, uses)?;
     Ok(found)
 }
 

@@ -1,6 +1,6 @@
 //! What a model declares.
 
-ghost use Rattle.std.specs.Prelude.{◌≡◌, ◌<◌, [], length, IfSome};
+ghost use Rattle.std.specs.Prelude.{◌≡◌, ◌<◌, [], length, map, IfSome};
 ghost use Rattle.fo_core.specs.Tables.{symbol_at};
 ghost use Rattle.pyv_meaning.specs.Closing.{is_capital as begins_capital};
 ghost use Rattle.pyv_meaning.specs.Scope.{number as number_of, resolve as resolve_of};
@@ -12,7 +12,7 @@ ghost use Rattle.pyv_sorts.specs.Vocabulary.{InRange};
 use crate::placed::Placed;
 use crate::scope::Scope;
 use crate::words::Words;
-use fo_core::{Seq, Symbol};
+use fo_core::{Seq, Sig, Symbol};
 use pv_base::Span;
 use pyv_meaning::Meaning;
 use std::marker::Model;
@@ -144,21 +144,35 @@ impl<'a> Known<'a> {
         self.resolve(scope, word(self.bytes, name))
     }
 
-    /// The sorts' names, the symbols' names, the symbols and the transitions' names.
-    pub fn into_parts(self) -> (Words<'a>, Words<'a>, Seq<Symbol>, Words<'a>)
-        ensures sorts { result.0 ≡ self.entry.names.sorts }
-        ensures names { result.1 ≡ self.entry.names.symbols }
-        ensures symbols { result.2 ≡ self.entry.sig.symbols }
-        ensures steps { result.3 ≡ self.entry.names.steps }
-        ensures definitions { self.entry.names.definitions ≡ [] }
+    /// The names of the sorts, in order.
+    pub fn sorts(&self) -> &[&'a [u8]]
+        ensures { map (λ w. w.now) result.now ≡ self.now.names.sorts }
     {
-        let Known {
-            bytes: _,
-            sorts,
-            names,
-            symbols,
-            steps,
-        } = self;
-        (sorts, names, symbols, steps)
+        self.sorts.as_slice()
+    }
+
+    /// The names of the symbols, in order.
+    pub fn symbols(&self) -> &[&'a [u8]]
+        ensures { map (λ w. w.now) result.now ≡ self.now.names.symbols }
+    {
+        self.names.as_slice()
+    }
+
+    /// The names of the transitions, in order. There are no further names.
+    pub fn steps(&self) -> &[&'a [u8]]
+        ensures names { map (λ w. w.now) result.now ≡ self.now.names.steps }
+        ensures no_more { self.now.names.definitions ≡ [] }
+    {
+        self.steps.as_slice()
+    }
+
+    /// The signature that is declared.
+    pub fn into_sig(self) -> Sig
+        ensures { result ≡ self.entry.sig }
+    {
+        Sig {
+            sorts: self.sorts.len() as u32,
+            symbols: self.symbols,
+        }
     }
 }

@@ -2,7 +2,7 @@ ghost use Rattle.std.specs.Prelude.{◌≡◌};
 ghost use Rattle.pyv_sorts.specs.Inferring.{add as add_of};
 
 /// The sorts that a class of variables gets: none, one, or more.
-#[derive(Clone, Copy, Debug)]
+#[derive(Clone, Copy)]
 pub enum Mark {
     Nothing,
     One(u32),

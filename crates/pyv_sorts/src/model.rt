@@ -18,7 +18,7 @@ use crate::body::{Body, elaborate_body};
 use crate::declare::known_of;
 use crate::known::Known;
 use crate::names::sort_stands;
-use fo_core::{Formula, Names, Seq, Sig, Step, System, Text};
+use fo_core::{Formula, Names, Seq, Step, System, Text};
 use pv_base::Span;
 use pyv_grammar::{Bound, Decl, Expr, Model};
 use pyv_meaning::SortFault;
@@ -32,7 +32,7 @@ pub struct Elaborated {
 }
 
 /// The formulas and transitions of a system.
-#[derive(Debug, Drop)]
+#[derive(Drop)]
 struct Parts {
     axioms: Seq<Formula>,
     inits: Seq<Formula>,
@@ -164,6 +164,21 @@ impl Parts {
         }
         Ok(())
     }
+
+    /// Adds what the declarations mean, and answers the names that are declared.
+    fn fill(&mut self, alloc: Global, known: &Known<'_>, decls: &[Decl]) -> Result<Names, SortFault>
+        requires few { HaveFew (items_of known.now.bytes decls.now) }
+        requires sorts { AllByRecursion IsUtf8 known.now.names.sorts }
+        requires symbols { AllByRecursion IsUtf8 known.now.names.symbols }
+        requires steps { AllByRecursion IsUtf8 known.now.names.steps }
+        requires none { Done known.now.names known.now.sig [] self.old.axioms self.old.inits self.old.steps self.old.safeties self.old.invariants }
+        ensures done { OnOk result (Done known.now.names known.now.sig (items_of known.now.bytes decls.now) self.new.axioms self.new.inits self.new.steps self.new.safeties self.new.invariants) }
+        ensures names { IfOk result (λ n. n ≡ known.now.names) }
+        ensures fault { IfErr result (IsFaultOfBodies known.now (bodies_of (items_of known.now.bytes decls.now))) }
+    {
+        self.add_all(alloc, known, decls)?;
+        Ok(declared_names(alloc, known)?)
+    }
 }
 
 /// The text of a word, which is ASCII.
@@ -189,10 +204,33 @@ fn texts_of(alloc: Global, words: &[&[u8]]) -> Result<Seq<Text>, AllocError>
     Ok(texts)
 }
 
-/// The formulas and transitions that declarations mean, or the first fault of their bodies.
-fn bodies(alloc: Global, known: &Known<'_>, decls: &[Decl]) -> Result<Parts, SortFault>
+/// The names that are declared.
+fn declared_names(alloc: Global, known: &Known<'_>) -> Result<Names, AllocError>
+    requires sorts { AllByRecursion IsUtf8 known.now.names.sorts }
+    requires symbols { AllByRecursion IsUtf8 known.now.names.symbols }
+    requires steps { AllByRecursion IsUtf8 known.now.names.steps }
+    ensures { IfOk result (λ n. n ≡ known.now.names) }
+{
+    let sorts = texts_of(alloc, known.sorts())?;
+    let symbols = texts_of(alloc, known.symbols())?;
+    let steps = texts_of(alloc, known.steps())?;
+    Ok(Names {
+        sorts,
+        symbols,
+        steps,
+        definitions: Seq::new(alloc),
+    })
+}
+
+/// The formulas and transitions that declarations mean, and the names that are declared, or the
+/// first fault of their bodies.
+fn bodies(alloc: Global, known: &Known<'_>, decls: &[Decl]) -> Result<(Parts, Names), SortFault>
     requires few { HaveFew (items_of known.now.bytes decls.now) }
-    ensures done { IfOk result (λ p. Done known.now.names known.now.sig (items_of known.now.bytes decls.now) p.axioms p.inits p.steps p.safeties p.invariants) }
+    requires sorts { AllByRecursion IsUtf8 known.now.names.sorts }
+    requires symbols { AllByRecursion IsUtf8 known.now.names.symbols }
+    requires steps { AllByRecursion IsUtf8 known.now.names.steps }
+    ensures done { IfOk result (λ r. Done known.now.names known.now.sig (items_of known.now.bytes decls.now) r.0.axioms r.0.inits r.0.steps r.0.safeties r.0.invariants) }
+    ensures names { IfOk result (λ r. r.1 ≡ known.now.names) }
     ensures fault { IfErr result (IsFaultOfBodies known.now (bodies_of (items_of known.now.bytes decls.now))) }
 {
     let mut parts = Parts {
@@ -202,31 +240,8 @@ fn bodies(alloc: Global, known: &Known<'_>, decls: &[Decl]) -> Result<Parts, Sor
         safeties: Seq::new(alloc),
         invariants: Seq::new(alloc),
     };
-    parts.add_all(alloc, known, decls)?;
-    Ok(parts)
-}
-
-/// The signature that is declared, and its names.
-fn signature(alloc: Global, known: Known<'_>) -> Result<(Sig, Names), AllocError>
-    requires sorts { AllByRecursion IsUtf8 known.names.sorts }
-    requires symbols { AllByRecursion IsUtf8 known.names.symbols }
-    requires steps { AllByRecursion IsUtf8 known.names.steps }
-    requires count { known.sig.sorts ≡ length known.names.sorts }
-    ensures sig { IfOk result (λ r. r.0 ≡ known.entry.sig) }
-    ensures names { IfOk result (λ r. r.1 ≡ known.entry.names) }
-{
-    let (sorts, names, symbols, transitions) = known.into_parts();
-    let sig = Sig {
-        sorts: sorts.len() as u32,
-        symbols,
-    };
-    let names = Names {
-        sorts: texts_of(alloc, sorts.as_slice())?,
-        symbols: texts_of(alloc, names.as_slice())?,
-        steps: texts_of(alloc, transitions.as_slice())?,
-        definitions: Seq::new(alloc),
-    };
-    Ok((sig, names))
+    let names = parts.fill(alloc, known, decls)?;
+    Ok((parts, names))
 }
 
 /// The system that a model means, with its names, or the first fault.
@@ -253,22 +268,15 @@ pub fn elaborate(alloc: Global, bytes: &[u8], m: &Model) -> Result<Elaborated, S
 {
     let decls = m.decls.as_slice();
     let known = known_of(alloc, bytes, decls)?;
-    let Parts {
-        axioms,
-        inits,
-        steps,
-        safeties,
-        invariants,
-    } = bodies(alloc, &known, decls)?;
-    let (sig, names) = signature(alloc, known)?;
+    let (parts, names) = bodies(alloc, &known, decls)?;
     Ok(Elaborated {
         sys: System {
-            sig,
-            axioms,
-            inits,
-            steps,
-            safeties,
-            invariants,
+            sig: known.into_sig(),
+            axioms: parts.axioms,
+            inits: parts.inits,
+            steps: parts.steps,
+            safeties: parts.safeties,
+            invariants: parts.invariants,
         },
         names,
     })

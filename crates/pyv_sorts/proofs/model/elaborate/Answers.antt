@@ -12,34 +12,32 @@ returns-in_err-known-clause-only c = λ sys names h.
     rw (p.1, p.2) (only_memory c.args.bytes.now c.args.m.now sys names h e (declared_fails_at c.args.bytes.now c.args.m.now c.as_slice-decls.result.now c.as_slice-decls.ensures e c.in_err-known.ensures.tells))
 
 pub bodies-requires : goal.bodies-requires
-bodies-requires c = record { few = few_params c.args.bytes.now c.args.m.now c.in_ok-known.known c.as_slice-decls.result.now (known_is c.args.bytes.now c.args.m.now c.in_ok-known.known c.as_slice-decls.result.now c.as_slice-decls.ensures c.in_ok-known.ensures.bytes c.in_ok-known.ensures.tells c.in_ok-known.ensures.names c.in_ok-known.ensures.sig) }
+bodies-requires c =
+    let k = known_is c.args.bytes.now c.args.m.now c.in_ok-known.known c.as_slice-decls.result.now c.as_slice-decls.ensures c.in_ok-known.ensures.bytes c.in_ok-known.ensures.tells c.in_ok-known.ensures.names c.in_ok-known.ensures.sig in
+    record {
+      few = few_params c.args.bytes.now c.args.m.now c.in_ok-known.known c.as_slice-decls.result.now k;
+      sorts = sort_texts c.args.bytes.now c.args.m.now c.in_ok-known.known c.as_slice-decls.result.now k;
+      symbols = symbol_texts c.args.bytes.now c.args.m.now c.in_ok-known.known c.as_slice-decls.result.now k;
+      steps = step_texts c.args.bytes.now c.args.m.now c.in_ok-known.known c.as_slice-decls.result.now k;
+    }
 
-pub returns-in_err-axioms-clause-only : goal.returns-in_err-axioms-clause-only
-returns-in_err-axioms-clause-only c = λ sys names h.
-    let p = err_from_is_err_and c.from_residual-in_err-axioms.result c.from_residual-in_err-axioms.ensures.1 in
-    let e = c.in_err-axioms.field-0.0 in
-    rw (p.1, p.2) (only_memory c.args.bytes.now c.args.m.now sys names h e (bodies_fail c.args.bytes.now c.args.m.now c.in_ok-known.known c.as_slice-decls.result.now (known_is c.args.bytes.now c.args.m.now c.in_ok-known.known c.as_slice-decls.result.now c.as_slice-decls.ensures c.in_ok-known.ensures.bytes c.in_ok-known.ensures.tells c.in_ok-known.ensures.names c.in_ok-known.ensures.sig) e c.in_err-axioms.ensures.fault))
+pub returns-in_err-parts-clause-only : goal.returns-in_err-parts-clause-only
+returns-in_err-parts-clause-only c = λ sys names h.
+    let p = err_from_is_err_and c.from_residual-in_err-parts.result c.from_residual-in_err-parts.ensures.1 in
+    let e = c.in_err-parts.field-0.0 in
+    rw (p.1, p.2) (only_memory c.args.bytes.now c.args.m.now sys names h e (bodies_fail c.args.bytes.now c.args.m.now c.in_ok-known.known c.as_slice-decls.result.now (known_is c.args.bytes.now c.args.m.now c.in_ok-known.known c.as_slice-decls.result.now c.as_slice-decls.ensures c.in_ok-known.ensures.bytes c.in_ok-known.ensures.tells c.in_ok-known.ensures.names c.in_ok-known.ensures.sig) e c.in_err-parts.ensures.fault))
 
-pub returns-in_err-axioms-clause-fault : goal.returns-in_err-axioms-clause-fault
-returns-in_err-axioms-clause-fault c =
-    let p = err_from_is_err_and c.from_residual-in_err-axioms.result c.from_residual-in_err-axioms.ensures.1 in
-    let e = c.in_err-axioms.field-0.0 in
-    rw (p.1, p.2) (bodies_fail c.args.bytes.now c.args.m.now c.in_ok-known.known c.as_slice-decls.result.now (known_is c.args.bytes.now c.args.m.now c.in_ok-known.known c.as_slice-decls.result.now c.as_slice-decls.ensures c.in_ok-known.ensures.bytes c.in_ok-known.ensures.tells c.in_ok-known.ensures.names c.in_ok-known.ensures.sig) e c.in_err-axioms.ensures.fault)
-
-pub signature-requires-clause-sorts : goal.signature-requires-clause-sorts
-signature-requires-clause-sorts c = sort_texts c.args.bytes.now c.args.m.now c.in_ok-known.known c.as_slice-decls.result.now (known_is c.args.bytes.now c.args.m.now c.in_ok-known.known c.as_slice-decls.result.now c.as_slice-decls.ensures c.in_ok-known.ensures.bytes c.in_ok-known.ensures.tells c.in_ok-known.ensures.names c.in_ok-known.ensures.sig)
-
-pub signature-requires-clause-symbols : goal.signature-requires-clause-symbols
-signature-requires-clause-symbols c = symbol_texts c.args.bytes.now c.args.m.now c.in_ok-known.known c.as_slice-decls.result.now (known_is c.args.bytes.now c.args.m.now c.in_ok-known.known c.as_slice-decls.result.now c.as_slice-decls.ensures c.in_ok-known.ensures.bytes c.in_ok-known.ensures.tells c.in_ok-known.ensures.names c.in_ok-known.ensures.sig)
-
-pub signature-requires-clause-steps : goal.signature-requires-clause-steps
-signature-requires-clause-steps c = step_texts c.args.bytes.now c.args.m.now c.in_ok-known.known c.as_slice-decls.result.now (known_is c.args.bytes.now c.args.m.now c.in_ok-known.known c.as_slice-decls.result.now c.as_slice-decls.ensures c.in_ok-known.ensures.bytes c.in_ok-known.ensures.tells c.in_ok-known.ensures.names c.in_ok-known.ensures.sig)
+pub returns-in_err-parts-clause-fault : goal.returns-in_err-parts-clause-fault
+returns-in_err-parts-clause-fault c =
+    let p = err_from_is_err_and c.from_residual-in_err-parts.result c.from_residual-in_err-parts.ensures.1 in
+    let e = c.in_err-parts.field-0.0 in
+    rw (p.1, p.2) (bodies_fail c.args.bytes.now c.args.m.now c.in_ok-known.known c.as_slice-decls.result.now (known_is c.args.bytes.now c.args.m.now c.in_ok-known.known c.as_slice-decls.result.now c.as_slice-decls.ensures c.in_ok-known.ensures.bytes c.in_ok-known.ensures.tells c.in_ok-known.ensures.names c.in_ok-known.ensures.sig) e c.in_err-parts.ensures.fault)
 
 pub returns-clause-found : goal.returns-clause-found
 returns-clause-found c =
-    let p = c.in_ok-axioms.field-0 in
+    let p = c.in_ok-parts.parts in
     means c.args.bytes.now c.args.m.now c.in_ok-known.known c.as_slice-decls.result.now (known_is c.args.bytes.now c.args.m.now c.in_ok-known.known c.as_slice-decls.result.now c.as_slice-decls.ensures c.in_ok-known.ensures.bytes c.in_ok-known.ensures.tells c.in_ok-known.ensures.names c.in_ok-known.ensures.sig)
-    (record { sig = c.in_ok-sig.sig; axioms = p.axioms; inits = p.inits; steps = p.steps; safeties = p.safeties; invariants = p.invariants }) c.in_ok-sig.names c.in_ok-sig.ensures.sig c.in_ok-sig.ensures.names c.in_ok-axioms.ensures.done
+    (record { sig = c.into_sig.result; axioms = p.axioms; inits = p.inits; steps = p.steps; safeties = p.safeties; invariants = p.invariants }) c.in_ok-parts.names c.into_sig.ensures c.in_ok-parts.ensures.names c.in_ok-parts.ensures.done
 
 pub returns-clause-only : goal.returns-clause-only
 returns-clause-only c = λ sys names h. only_found c.args.bytes.now c.args.m.now _ (returns-clause-found c) sys names h

@@ -1,8 +1,8 @@
 use Rattle.std.proofs.Common.{◌≡◌, ap, ◌∙◌}
 use Rattle.indexmap.specs.IndexSet.{IndexSet}
 use Rattle.pyv_sorts.proofs.Naming.{named_end, one_named, two_named}
-use Rattle.pyv_sorts.proofs.infer.variables.Goals as goal
-use Rattle.pyv_sorts.proofs.infer.variables.Goals.{in-Alike+in_ok-insert-in-Alike+in_ok-insert-in-Alike-2, in-Binder+in_ok-insert-in-Binder}
+use Rattle.pyv_sorts.proofs.infer.add_variables.Goals as goal
+use Rattle.pyv_sorts.proofs.infer.add_variables.Goals.{in-Alike+in_ok-insert-in-Alike+in_ok-insert-in-Alike-2, in-Binder+in_ok-insert-in-Binder}
 
 pub each-preserved : goal.each-preserved
 each-preserved c = elim c.match-told.branch [
