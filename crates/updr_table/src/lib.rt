@@ -12,4 +12,5 @@ mod reading;
 
 pub use answering::answer;
 pub use course::{Course, content};
-pub use listing::{More, Nothing, Table};
+pub use listing::{More, Nothing, Table, is_named};
+pub use reading::read_files;

@@ -45,7 +45,7 @@ pub struct More<C, T> {
 }
 
 /// Whether the first word is the name of the command of this form.
-fn is_named(form: &Form, words: &[String]) -> bool
+pub fn is_named(form: &Form, words: &[String]) -> bool
     ensures { IsTrue result
         ↔ (slice_get (map string_bytes words.now) 0 ≡ Some (form_of form.now).name) }
 {

@@ -17,6 +17,7 @@ use Rattle.up_gen.specs.declared.models.TheConstants.{MOST_RELATIONS}
 use Rattle.up_gen_means.specs.Accepted.{IsAccepted}
 use Rattle.up_gen_means.proofs.Each.{each}
 use Rattle.up_machine.specs.declared.limits.Limits.{Limits}
+use Rattle.up_rounds.specs.Courses.{IsRun}
 use Rattle.up_machine.proofs.Lists.{some_injective}
 use Rattle.clap.specs.Words.{matches_of}
 use Rattle.updr_words.specs.Forms.{app_by}
@@ -35,7 +36,7 @@ use Rattle.updr_top.specs.Complete.{HasJudgeable, IsComplete}
 use Rattle.updr_top.specs.Demo.{demo_form, demo_rows, demo_table, demo_text, relations_of, usual_limits}
 use Rattle.updr_top.specs.Infer.{infer_command, limits_of, search_text}
 use Rattle.updr_top.specs.Reported.{HasNoReport, IsAsked, IsSecond, MeansReported, Reported, not_ordered}
-use Rattle.updr_top.specs.Tellings.{Printing, search_table}
+use Rattle.updr_top.specs.Tellings.{Printing, Running, search_table}
 use Rattle.updr_top.specs.Verify.{verify_command}
 use Rattle.updr_top.proofs.DemoEnds.{is_number}
 
@@ -88,8 +89,8 @@ module _ (contents : Contents) (sys : System) (names : Names) (means : MeansText
   bmc_unrefused : (job : Job) → IsStratified sys purpose.Infer → NoneRefuses (bmc_command.rows job) contents
   bmc_unrefused job is = (whole _, (whole _, (whole _, ((λ high. ordered purpose.Infer is), ((λ high. absurd (omega (arith, high))), ((λ high. absurd (omega (arith, high))), ((λ high. absurd (omega (arith, high))), tt)))))))
 
-  search_unrefused : (printing : Printing) (limits : Limits) → IsStratified sys purpose.Infer → NoneRefuses (over_model (if_stratified purpose.Infer (search_table printing limits))) contents
-  search_unrefused printing limits is = (whole _, (whole _, (whole _, ((λ high. ordered purpose.Infer is), ((λ high. absurd (omega (arith, high))), ((λ high. absurd (omega (arith, high))), ((λ high. absurd (omega (arith, high))), ((λ high. absurd (omega (arith, high))), ((λ high. absurd (omega (arith, high))), ((λ high. absurd (omega (arith, high))), tt))))))))))
+  pub search_unrefused : (Ran : Running) (printing : Printing) (limits : Limits) → IsStratified sys purpose.Infer → NoneRefuses (over_model (if_stratified purpose.Infer (search_table Ran printing limits))) contents
+  search_unrefused Ran printing limits is = (whole _, (whole _, (whole _, ((λ high. ordered purpose.Infer is), ((λ high. absurd (omega (arith, high))), ((λ high. absurd (omega (arith, high))), ((λ high. absurd (omega (arith, high))), ((λ high. absurd (omega (arith, high))), ((λ high. absurd (omega (arith, high))), ((λ high. absurd (omega (arith, high))), tt))))))))))
 
 -- ---- texts that are made
 
@@ -110,7 +111,7 @@ demo_unrefused : (n : ℕ) → 1 ≤ n → n ≤ MOST_RELATIONS → (x : Content
 demo_unrefused n low high x =
     let a = each n low high in
     made_unrefused (model_text_of n ∷ []) (over_model (if_stratified purpose.Infer (demo_table n))) x
-    (search_unrefused (model_text_of n ∷ []) a.sys a.names (accepted_means (model_text_of n) a) (demo_text n) usual_limits a.stratified)
+    (search_unrefused (model_text_of n ∷ []) a.sys a.names (accepted_means (model_text_of n) a) IsRun (demo_text n) usual_limits a.stratified)
 
 -- the words name no file
 no_files : (P : List ℕ → List ℕ → Type 0) (fs : List (List ℕ)) → AllZip P [] fs → fs ≡ []
@@ -169,12 +170,12 @@ module _ (contents : Contents) (n : ℕ) where
       of (inr high) = absurd (omega (arith, high, is, low))
   search_answer (r ∷ rs) all low (inr h) = search_answer rs all.1 low h
 
-  search_answers : (rows : List (Row Contents CoreView)) → AreSearched rows → (n ≡ 16) ⊎ ((n < 10) × IsOneOf rows contents n) → (n ≤ 5) ⊎ (n ≡ 16)
+  pub search_answers : (rows : List (Row Contents CoreView)) → AreSearched rows → (n ≡ 16) ⊎ ((n < 10) × IsOneOf rows contents n) → (n ≤ 5) ⊎ (n ≡ 16)
   search_answers rows all (inl is) = inr is
   search_answers rows all (inr (low, h)) = inl (search_answer rows all low h)
 
-  searched : (printing : Printing) (limits : Limits) → AreSearched (over_model (if_stratified purpose.Infer (search_table printing limits)))
-  searched printing limits = (inr (omega arith), (inr (omega arith), (inr (omega arith), (inr (omega arith), (inl (omega arith), (inl (omega arith), (inl (omega arith), (inl (omega arith), (inl (omega arith), (inl (omega arith), tt))))))))))
+  pub searched : (Ran : Running) (printing : Printing) (limits : Limits) → AreSearched (over_model (if_stratified purpose.Infer (search_table Ran printing limits)))
+  searched Ran printing limits = (inr (omega arith), (inr (omega arith), (inr (omega arith), (inr (omega arith), (inl (omega arith), (inl (omega arith), (inl (omega arith), (inl (omega arith), (inl (omega arith), (inl (omega arith), tt))))))))))
 
   demo_searched : (k : ℕ) → AreSearched (demo_rows k)
   demo_searched k = (inr (omega arith), (inr (omega arith), (inr (omega arith), (inr (omega arith), (inl (omega arith), (inl (omega arith), (inl (omega arith), (inl (omega arith), (inl (omega arith), (inl (omega arith), tt))))))))))
@@ -195,9 +196,9 @@ module _ (words : List (List ℕ)) (call : Call CoreView) (all : AreComplete com
   pub is_complete : IsComplete words call
   is_complete = record {
     updr = λ h.
-        search_answers h.contents call.number (infer_command.rows h.job) (searched h.contents call.number search_text (limits_of h.job))
+        search_answers h.contents call.number (infer_command.rows h.job) (searched h.contents call.number IsRun search_text (limits_of h.job))
         ((((all.1 (λ other. apart words (codes "check") (codes "updr") (λ is. absurd (omega (arith, is))) other h.named)).1 (λ other. apart words (codes "verify") (codes "updr") (λ is. absurd (omega (arith, is))) other h.named)).1 (λ other. apart words (codes "bmc") (codes "updr") (λ is. absurd (omega (arith, is))) other h.named)).0 h.named h.job h.asked h.contents
-        (record { good = h.good; out_quiet = h.out_quiet; err_quiet = h.err_quiet; unrefused = search_unrefused h.contents h.sys h.names h.means search_text (limits_of h.job) h.is }));
+        (record { good = h.good; out_quiet = h.out_quiet; err_quiet = h.err_quiet; unrefused = search_unrefused h.contents h.sys h.names h.means IsRun search_text (limits_of h.job) h.is }));
     demo = λ h.
         let range = is_number h.job.numbers (in_range demo_form words h.job h.asked) in
         search_answers [] call.number (demo_rows (relations_of h.job)) (demo_searched [] call.number (relations_of h.job))

@@ -2,6 +2,10 @@ pub mod Complete
 pub mod DemoEnds
 pub mod EachOne
 pub mod Ended
+pub mod Finished
+pub mod FreeEnds
+pub mod FreeServed
+pub mod FreeWords
 pub mod Judgeable
 pub mod Left
 pub mod OneVerdict

@@ -32,7 +32,7 @@ use Rattle.up_machine.proofs.Histories.{legal-first}
 use Rattle.up_machine.proofs.Lists.{none_is_some, some_injective, two_places}
 use Rattle.up_machine.proofs.OneValid.{one_valid}
 use Rattle.up_core.specs.View.{CoreView}
-use Rattle.up_rounds.specs.Courses.{AreAlike}
+use Rattle.up_rounds.specs.Courses.{AreAlike, IsRun}
 use Rattle.up_rounds.proofs.AlikeLimits.{alike_one}
 use Rattle.updr_told.specs.declared.status.Status.{Status as Number}
 use Rattle.updr_top.specs.Infer.{search_text}
@@ -262,7 +262,7 @@ one_verdict sys limits history u v good legal s t =
     one_told sys limits good s.before before s.worker s.end u v s.tells tells
 
 -- whatever the number of workers, a search has one report
-pub one_report : (a b : Limits) (meant : Elaborated) (s t : Number) (x y : List ℕ) (left right : Option CoreView) → IsSystem meant.sys → AreAlike a b → Reports search_text a s meant x left → Reports search_text b t meant y right → (s ≡ t) × (x ≡ y)
+pub one_report : (a b : Limits) (meant : Elaborated) (s t : Number) (x y : List ℕ) (left right : Option CoreView) → IsSystem meant.sys → AreAlike a b → Reports IsRun search_text a s meant x left → Reports IsRun search_text b t meant y right → (s ≡ t) × (x ≡ y)
 one_report a b meant s t x y left right good alike p q =
     let same : q.core.history ≡ p.core.history = sym (alike_one meant.sys a b p.core.history q.core.history good alike p.ran.course q.ran.course) in
     let told : p.verdict ≡ q.verdict = one_verdict meant.sys a p.core.history p.verdict q.verdict good p.ran.course.legal p.told (subst (λ (h : List Event). Told meant.sys h q.verdict) same q.told) in (

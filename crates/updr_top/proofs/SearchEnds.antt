@@ -11,7 +11,6 @@ use Rattle.up_machine.specs.declared.limits.TheConstants.{MOST_WORKERS, MOST_SEA
 use Rattle.up_machine.specs.Ranges.{AreInRange, IsFrom1}
 use Rattle.up_machine.specs.Told.{Told}
 use Rattle.up_core.specs.View.{CoreView}
-use Rattle.up_rounds.specs.Courses.{IsRun}
 use Rattle.updr_told.specs.Ends.{End, printing}
 use Rattle.updr_told.specs.declared.status.Status.{Status}
 use Rattle.updr_told.specs.declared.status.Status.TheVariants as status
@@ -20,7 +19,7 @@ use Rattle.updr_table.specs.Rows.{Contents, Ends, EndsBy, end_of}
 use Rattle.updr_model.specs.OnModel.{Given}
 use Rattle.updr_top.specs.Infer.{infer_form}
 use Rattle.updr_top.specs.OneStatus.{status_of}
-use Rattle.updr_top.specs.Tellings.{Printing, search_table, told_row}
+use Rattle.updr_top.specs.Tellings.{IsReportOf, Printing, Running, search_table, told_row}
 
 -- the options of words are limits in range
 pub in_range : (ns : List ℕ) → AreOptionsInRange infer_form.numbers ns
@@ -51,14 +50,14 @@ read_range ns five ranges w b f s x d e g h i is_w is_b is_f is_s is_x =
       weight = subst (IsFrom1 MOST_WEIGHT) (sym (is_x ∙ get_or_default ns 4 i 0 (omega (arith, five)))) r.weight;
     }
 
-module _ (printing_of : Printing) (limits : Limits) (meant : Elaborated) (cs : Contents) (core : CoreView) (ran : IsRun meant.sys core.order limits core) (text : List ℕ) (e : End CoreView) where
+module _ (Ran : Running) (printing_of : Printing) (limits : Limits) (meant : Elaborated) (cs : Contents) (core : CoreView) (ran : Ran meant.sys core.order limits core) (text : List ℕ) (e : End CoreView) where
   abbrev given : Given
   given = record { meant = meant; contents = cs }
 
   module _ (told : Verdict) (tells : Told meant.sys core.history told) (text_is : text ≡ printing_of meant core told) where
-    by_row : (of : Status) → status_of told ≡ of → e ≡ end_of of text (Some core) → EndsBy (told_row printing_of limits of) given e
+    by_row : (of : Status) → status_of told ≡ of → e ≡ end_of of text (Some core) → EndsBy (told_row Ran printing_of limits of) given e
     by_row of status_is is = record {
-      comes = record { history = core.history; course = ran.course; verdict = told; told = tells; status_is = status_is };
+      comes = record { core = core; ran = ran; verdict = told; told = tells; status_is = status_is };
       bytes = text;
       left = Some core;
       says = record { core = core; left_is = refl; ran = ran; verdict = told; told = tells; status_is = status_is; text_is = text_is };
@@ -66,7 +65,7 @@ module _ (printing_of : Printing) (limits : Limits) (meant : Elaborated) (cs : C
     }
 
   -- what is printed of what is told is an end by a row of the table
-  pub search_ends : (told : Verdict) → Told meant.sys core.history told → text ≡ printing_of meant core told → e ≡ printing (status_of told) text (Some core) → Ends (search_table printing_of limits) given e
+  pub search_ends : (told : Verdict) → Told meant.sys core.history told → text ≡ printing_of meant core told → e ≡ printing (status_of told) text (Some core) → Ends (search_table Ran printing_of limits) given e
   search_ends (V.Safe frame clauses) tells text_is is = inl (by_row (V.Safe frame clauses) tells text_is status.Holds refl is)
   search_ends (V.Unsafe run) tells text_is is = inr (inl (by_row (V.Unsafe run) tells text_is status.Unsafe refl is))
   search_ends (V.NoUniversal links) tells text_is is = inr (inr (inl (by_row (V.NoUniversal links) tells text_is status.NoUniversal refl is)))
@@ -74,3 +73,9 @@ module _ (printing_of : Printing) (limits : Limits) (meant : Elaborated) (cs : C
   search_ends (V.Spent steps) tells text_is is = inr (inr (inr (inr (inl (by_row (V.Spent steps) tells text_is status.Spent refl is)))))
   search_ends (V.Over kind weight) tells text_is is = inr (inr (inr (inr (inr (inl (by_row (V.Over kind weight) tells text_is status.Over refl is))))))
   search_ends (V.NoRun steps) tells text_is is = inl (by_row (V.NoRun steps) tells text_is status.Holds refl is)
+
+-- so is a report of a machine that was run in this way
+pub report_ends : (Ran : Running) (printing_of : Printing) (limits : Limits) (meant : Elaborated) (cs : Contents) (core : CoreView) → Ran meant.sys core.order limits core → (e : End CoreView) → IsReportOf printing_of meant core e
+    → Ends (search_table Ran printing_of limits) (record { meant = meant; contents = cs }) e
+report_ends Ran printing_of limits meant cs core ran e r =
+    search_ends Ran printing_of limits meant cs core ran (printing_of meant core r.verdict) e r.verdict r.told refl r.is

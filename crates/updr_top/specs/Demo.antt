@@ -7,6 +7,7 @@ use Rattle.up_machine.specs.declared.limits.Limits.{Limits}
 use Rattle.up_core.specs.View.{CoreView, now, numbers_of}
 use Rattle.up_gen.specs.Models.{model_text_of}
 use Rattle.up_gen.specs.declared.models.TheConstants.{MOST_RELATIONS}
+use Rattle.up_rounds.specs.Courses.{IsRun}
 use Rattle.updr_told.specs.Statuses.{number_of}
 use Rattle.updr_told.specs.declared.status.Status.{Status}
 use Rattle.updr_words.specs.declared.form.Giving.TheVariants.{ByWord}
@@ -17,7 +18,7 @@ use Rattle.updr_table.specs.Rows.{Contents, Row}
 use Rattle.updr_model.specs.OnModel.{Given, if_stratified, over_text}
 use Rattle.updr_model.specs.Sound.{one_on_text, one_stratified}
 use Rattle.updr_top.specs.OneStatus.{status_of}
-use Rattle.updr_top.specs.Tellings.{Printing, one_told, search_table}
+use Rattle.updr_top.specs.Tellings.{Printing, one_told, rounds_have_one, search_table}
 
 -- ---- the words
 
@@ -74,7 +75,7 @@ demo_text n e core verdict =
 
 -- the rows of `updr` in the usual limits, with that line as what is printed
 abbrev pub demo_table : ℕ → List (Row Given CoreView)
-demo_table n = search_table (demo_text n) usual_limits
+demo_table n = search_table IsRun (demo_text n) usual_limits
 
 -- over the system that the text of the model means, if that is stratified
 abbrev pub demo_rows : ℕ → List (Row Contents CoreView)
@@ -90,5 +91,5 @@ demo_sound = record {
   table = λ job. refl;
   exclusive = λ job.
       one_on_text (model_text_of (relations_of job)) (if_stratified purpose.Infer (demo_table (relations_of job)))
-      (one_stratified purpose.Infer (demo_table (relations_of job)) (λ g is. one_told (demo_text (relations_of job)) usual_limits g is.system));
+      (one_stratified purpose.Infer (demo_table (relations_of job)) (λ g is. one_told IsRun rounds_have_one (demo_text (relations_of job)) usual_limits g is.system));
 }

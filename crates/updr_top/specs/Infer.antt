@@ -1,4 +1,5 @@
--- The command `updr`: a search for a universal inductive invariant, by rounds of the machine.
+-- The command `updr`: a search for a universal inductive invariant; by rounds of the machine, where its
+-- words don't ask for workers that run freely.
 use Rattle.std.specs.Prelude.{ℕ, List, [], ◌∷◌, codes, refl, slice_index_or}
 use Rattle.std.proofs.Common.{arith}
 use Rattle.clap.proofs.OnLiterals.{clap_on_literals}
@@ -9,6 +10,7 @@ use Rattle.up_machine.specs.declared.limits.Limits.{Limits}
 use Rattle.up_machine.specs.declared.limits.TheConstants.{MOST_WORKERS, MOST_SEATS, MOST_FRAMES, MOST_STEPS}
 use Rattle.up_core.specs.View.{CoreView, now, numbers_of}
 use Rattle.up_report.specs.Texts.{report_text}
+use Rattle.up_rounds.specs.Courses.{IsRun}
 use Rattle.updr_words.specs.declared.form.Giving.TheVariants.{ByOption}
 use Rattle.updr_words.specs.Forms.{Form, Number}
 use Rattle.updr_words.specs.Jobs.{Job}
@@ -16,7 +18,7 @@ use Rattle.updr_table.specs.Commands.{Command}
 use Rattle.updr_table.specs.Rows.{Row}
 use Rattle.updr_model.specs.OnModel.{Given, IsSoundStratified, if_stratified, model_command}
 use Rattle.updr_top.specs.Options.{weight_option}
-use Rattle.updr_top.specs.Tellings.{Printing, one_told, search_table}
+use Rattle.updr_top.specs.Tellings.{Printing, Running, one_told, rounds_have_one, search_table}
 
 -- ---- the words
 
@@ -72,17 +74,22 @@ search_text e core verdict = report_text e.sys.sig e.names (report_of core verdi
 
 -- ---- the command
 
-abbrev pub infer_rows : Job → List (Row Given CoreView)
-infer_rows job = search_table search_text (limits_of job)
+-- the rows of a search by machines that are run so, in the limits of the words
+abbrev pub search_rows : Running → Job → List (Row Given CoreView)
+search_rows Ran job = search_table Ran search_text (limits_of job)
+
+-- the command of these words that searches so
+abbrev pub search_command : Form → Running → Command CoreView
+search_command form Ran = model_command form (λ job. if_stratified purpose.Infer (search_rows Ran job))
 
 abbrev pub infer_command : Command CoreView
-infer_command = model_command infer_form (λ job. if_stratified purpose.Infer (infer_rows job))
+infer_command = search_command infer_form IsRun
 
-pub infer_sound : IsSoundStratified purpose.Infer infer_form infer_rows
+pub infer_sound : IsSoundStratified purpose.Infer infer_form (search_rows IsRun)
 unfolding clap_on_literals
 infer_sound = record {
   simple = refl;
   model = omega arith;
   table = λ job. refl;
-  exclusive = λ job g model. one_told search_text (limits_of job) g model.system;
+  exclusive = λ job g model. one_told IsRun rounds_have_one search_text (limits_of job) g model.system;
 }

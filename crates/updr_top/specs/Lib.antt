@@ -4,6 +4,7 @@ pub mod CheckSound
 pub mod Commands
 pub mod Complete
 pub mod Demo
+pub mod Free
 pub mod Infer
 pub mod Narrow
 pub mod OneStatus

@@ -1,21 +1,17 @@
--- The status of a verdict, of which rounds tell one alone.
+-- The status of a verdict, of which a history tells one alone.
 use Rattle.std.proofs.Common.{◌≡◌, ◌∙◌, ℕ, List, Some, refl, sym, ap, subst}
 use Rattle.fo_core.specs.declared.system.System.{System}
-use Rattle.fo_core.specs.Sorted.{IsSystem}
 use Rattle.up_claims.specs.declared.verdict.Verdict.{Verdict}
 use Rattle.up_claims.specs.declared.verdict.Verdict.TheVariants as verdict
 use Rattle.up_machine.specs.declared.end.End.{End}
 use Rattle.up_machine.specs.declared.end.End.TheVariants as N
 use Rattle.up_machine.specs.declared.event.Event.{Event}
 use Rattle.up_machine.specs.declared.event.Event.TheVariants as E
-use Rattle.up_machine.specs.declared.limits.Limits.{Limits}
 use Rattle.up_machine.specs.Machine.{Machine}
 use Rattle.up_machine.specs.Replay.{replay}
 use Rattle.up_machine.specs.Told.{IsToldBy, Told}
 use Rattle.up_machine.proofs.Histories.{replay-push}
 use Rattle.up_machine.proofs.Lists.{some_injective}
-use Rattle.up_rounds.specs.Courses.{IsCourse}
-use Rattle.up_rounds.proofs.OneCourse.{course_one}
 use Rattle.updr_told.specs.declared.status.Status.{Status}
 use Rattle.updr_told.specs.declared.status.Status.TheVariants as status
 
@@ -58,9 +54,8 @@ same_status sys history u v s t =
     let same = some_injective s.end t.end (sym (told_end sys history u s) ∙ told_end sys history v t) in
     told_status sys (replay s.before) s.worker s.end u s.tells ∙ ap status_of_end same ∙ sym (told_status sys (replay t.before) t.worker t.end v t.tells)
 
--- the history that rounds make of a system tells verdicts of one status
-pub one_status : (sys : System) (limits : Limits) → IsSystem sys → (h k : List Event) → IsCourse sys limits h → IsCourse sys limits k → (u v : Verdict) (a b : Status)
+-- one history tells verdicts of one status
+pub one_status : (sys : System) (h k : List Event) → h ≡ k → (u v : Verdict) (a b : Status)
     → Told sys h u → Told sys k v → status_of u ≡ a → status_of v ≡ b → a ≡ b
-one_status sys limits good h k p q u v a b s t is other =
-    let one = course_one sys limits h k good p q in
+one_status sys h k one u v a b s t is other =
     sym is ∙ same_status sys h u v s (subst (λ (x : List Event). Told sys x v) (sym one) t) ∙ other

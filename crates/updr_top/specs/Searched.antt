@@ -4,7 +4,7 @@
 -- machine, frame i holds in every state that is reached within i steps, and the printed verdict
 -- holds: a universal inductive invariant, a shortest violating run, a chain that no universal
 -- invariant survives, or that the stated frames, steps or weight were spent.
-use Rattle.std.specs.Prelude.{◌≡◌, ◌⊎◌, ℕ, ◌<◌, ◌≤◌, List, Some, length, ⊤}
+use Rattle.std.specs.Prelude.{◌≡◌, ◌⊎◌, ℕ, ◌<◌, ◌≤◌, List, Some, length, slice_get, ⊤}
 use Rattle.fo_core.specs.declared.names.Names.{Names}
 use Rattle.fo_core.specs.declared.system.System.{System}
 use Rattle.pv_base.specs.Written.{AppendsPrefix}
@@ -22,6 +22,7 @@ use Rattle.updr_told.specs.Statuses.{number_of}
 use Rattle.updr_told.specs.Telling.{TakesAll}
 use Rattle.updr_told.specs.declared.status.Status.{Status}
 use Rattle.updr_told.specs.declared.status.Status.TheVariants.{WriteFault}
+use Rattle.updr_words.specs.Forms.{Form}
 use Rattle.updr_words.specs.Jobs.{IsJob, Job}
 use Rattle.updr_table.specs.Commands.{IsNamed}
 use Rattle.updr_table.specs.Outside.{AreContents, Outside}
@@ -34,14 +35,14 @@ use Rattle.updr_top.specs.OneStatus.{status_of}
 
 -- ---- what was asked
 
--- The words are those of `updr`, and ask for a search in these limits; and the file that they name
--- was read, and its bytes mean this system, with these names. Where the files tell the content of
--- the name, these bytes are that content.
-pub record AsksSearch (words : List (List ℕ)) (files : Outside) (limits : Limits) (sys : System)
-    (names : Names) : Type 0 where
-  pub named : IsNamed infer_command words
+-- The words are of this form of `updr`, and ask for a search in these limits; and the file that they
+-- name was read, and its bytes mean this system, with these names. Where the files tell the content
+-- of the name, these bytes are that content.
+pub record AsksSearch (form : Form) (words : List (List ℕ)) (files : Outside) (limits : Limits)
+    (sys : System) (names : Names) : Type 0 where
+  pub named : slice_get words 0 ≡ Some form.name
   pub job : Job
-  pub asked : IsJob infer_form words job
+  pub asked : IsJob form words job
   pub limits_are : limits ≡ limits_of job
   pub contents : Contents
   pub were_read : AreContents files job.files contents
@@ -100,17 +101,22 @@ line_of relations status core =
 
 -- ---- the headline
 
--- What a call of `updr` that left this machine has shown. Its history is the only one that rounds
--- make of the system in the limits, whatever the number of workers (laws of up_rounds and of this
--- crate).
-pub record HasShown (words : List (List ℕ)) (call : Call CoreView) (core : CoreView) : Type 0 where
+-- What a call of `updr` that left this machine has shown, by words of this form, whose searches are
+-- runs of this kind.
+pub record HasShown (form : Form) (Run : CoreView → Type 0) (words : List (List ℕ))
+    (call : Call CoreView) (core : CoreView) : Type 0 where
   pub names : Names
-  pub asked : AsksSearch words call.files core.limits core.sys names
-  pub run : IsWrittenRun core.sys core.limits core.history
+  pub asked : AsksSearch form words call.files core.limits core.sys names
+  pub run : Run core
   pub told : Verdict
   pub proved : IsProved core.sys core.limits core.history told
   pub printed :
       IsPrinted call (status_of told) (report_text core.sys.sig names (report_of core told))
+
+-- The machine was run by rounds. Its history is the only one that rounds make of the system in the
+-- limits, whatever the number of workers (laws of up_rounds and of this crate).
+abbrev pub IsWritten : CoreView → Type 0
+IsWritten core = IsWrittenRun core.sys core.limits core.history
 
 -- What a call of `demo` that left this machine has shown: the same of the system that the text of
 -- the model of n relations means, in the usual limits. Of the verdict its line tells the status.
@@ -118,7 +124,7 @@ pub record HasDemonstrated (words : List (List ℕ)) (call : Call CoreView) (cor
     Type 0 where
   pub relations : ℕ
   pub asked : AsksDemo words core.limits core.sys relations
-  pub run : IsWrittenRun core.sys core.limits core.history
+  pub run : IsWritten core
   pub told : Verdict
   pub proved : IsProved core.sys core.limits core.history told
   pub printed : IsPrinted call (status_of told) (line_of relations (status_of told) core)
@@ -134,4 +140,4 @@ pub record IsSearch (words : List (List ℕ)) (call : Call CoreView) : Type 0 wh
       NamesSearch words → call.number < 10 → (core : CoreView) × (call.left ≡ Some core)
   pub shows :
       (core : CoreView) → call.left ≡ Some core →
-      HasShown words call core ⊎ HasDemonstrated words call core
+      HasShown infer_form IsWritten words call core ⊎ HasDemonstrated words call core

@@ -3,12 +3,11 @@ ghost use Rattle.fo_core.specs.declared.order.Purpose.TheVariants as purpose;
 ghost use Rattle.up_machine.specs.Ranges.{AreInRange};
 ghost use Rattle.up_machine.specs.Told.{Told as TellsVerdict};
 ghost use Rattle.up_report.specs.Ranges.{AreNumbers};
-ghost use Rattle.up_rounds.specs.Courses.{IsRun};
+ghost use Rattle.updr_words.specs.Forms.{form_of, texts};
 ghost use Rattle.updr_words.specs.Jobs.{AreInRange as AreOptionsInRange, job_of};
-ghost use Rattle.updr_table.specs.Rows.{Contents, Ends};
 ghost use Rattle.updr_model.specs.Texts.{IsModel};
 ghost use Rattle.updr_top.specs.Infer.{infer_form, limits_of, report_of, search_text};
-ghost use Rattle.updr_top.specs.Tellings.{search_table};
+ghost use Rattle.updr_top.specs.Tellings.{IsFinished, IsReportOf};
 
 use crate::narrow::is_narrow;
 use crate::options::WEIGHT;
@@ -62,8 +61,20 @@ const STEPS: Number = Number {
     most: MOST_STEPS,
 };
 
+/// The words of a search, with these options without a value.
+pub fn search_form(flags: &'static [&'static str]) -> Form
+    ensures { form_of result ≡ record infer_form { flags = texts flags.now } }
+{
+    Form {
+        name: "updr",
+        files: &["MODEL"],
+        numbers: &[WORKERS, BATCH, FRAMES, STEPS, WEIGHT],
+        flags,
+    }
+}
+
 /// What the words let a search spend.
-fn limits_by(job: &Job<'_>) -> Limits
+pub fn limits_by(job: &Job<'_>) -> Limits
     requires given { length job.now.numbers.items ≡ 5 }
     requires ranges { AreOptionsInRange infer_form.numbers job.now.numbers.items }
     ensures is { result ≡ limits_of (job_of job.now) }
@@ -99,7 +110,7 @@ fn report_text(
     verdict: Verdict,
 ) -> Result<Vec<u8>, AllocError>
     requires model { IsModel meant.now.sys meant.now.names }
-    requires ran { IsRun meant.now.sys core.now.order core.now.limits core.now }
+    requires finished { IsFinished meant.now.sys core.now.limits core.now }
     requires told { TellsVerdict meant.now.sys core.now.history verdict }
     ensures { IfOk result (λ text. text.items ≡ search_text meant.now core.now verdict) }
 {
@@ -114,11 +125,10 @@ fn report_text(
 }
 
 /// The end that reports what a search has come to. It leaves the machine.
-fn reported(alloc: Global, meant: &Elaborated, core: Core) -> Result<Told<Core>, AllocError>
+pub fn reported(alloc: Global, meant: &Elaborated, core: Core) -> Result<Told<Core>, AllocError>
     requires model { IsModel meant.now.sys meant.now.names }
-    requires ran { IsRun meant.now.sys core.order core.limits core }
-    ensures { IfOk result (λ end. (cs : Contents)
-        → Ends (search_table search_text core.limits) (record { meant = meant.now; contents = cs }) end) }
+    requires finished { IsFinished meant.now.sys core.limits core }
+    ensures { IfOk result (IsReportOf search_text meant.now core) }
 {
     let verdict = told_verdict(alloc, meant, &core)?;
     let status = status_of(&verdict);
@@ -133,21 +143,17 @@ pub struct Infer;
 
 impl OnStratified<Core> for Infer {
     ghost use Rattle.fo_core.specs.declared.order.Purpose.TheVariants as purpose;
-    ghost use Rattle.updr_top.specs.Infer.{infer_form, infer_rows, infer_sound};
+    ghost use Rattle.up_rounds.specs.Courses.{IsRun};
+    ghost use Rattle.updr_top.specs.Infer.{infer_form, infer_sound, search_rows};
 
     ghost words = { infer_form };
 
     ghost aim = { purpose.Infer };
 
-    ghost rows = { infer_rows };
+    ghost rows = { search_rows IsRun };
 
     fn form() -> Form {
-        Form {
-            name: "updr",
-            files: &["MODEL"],
-            numbers: &[WORKERS, BATCH, FRAMES, STEPS, WEIGHT],
-            flags: &[],
-        }
+        search_form(&[])
     }
 
     fn purpose() -> Purpose {

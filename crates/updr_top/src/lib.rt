@@ -4,6 +4,7 @@
 mod bmc;
 mod check;
 mod demo;
+mod free;
 mod infer;
 mod laws;
 mod narrow;
@@ -14,4 +15,4 @@ mod verdicts;
 mod verify;
 
 pub use laws::workers_change_no_report;
-pub use top::{Ending, run_plain, tell_out_of_memory};
+pub use top::{Ending, run, run_plain, tell_out_of_memory};

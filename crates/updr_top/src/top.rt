@@ -4,18 +4,22 @@ ghost use Rattle.updr_told.specs.Ends.{out_of_memory};
 ghost use Rattle.updr_told.specs.Telling.{Tells, sunk};
 ghost use Rattle.updr_table.specs.Outside.{outside};
 ghost use Rattle.updr_table.specs.Table.{met};
+ghost use Rattle.updr_top.specs.Free.{AsksFree, IsFreelyServed};
 ghost use Rattle.updr_top.specs.Searched.{IsSearch};
 ghost use Rattle.updr_top.specs.Served.{IsServed};
 
 use crate::bmc::Bmc;
 use crate::check::Check;
 use crate::demo::Demo;
+use crate::free::serve_free;
 use crate::infer::Infer;
 use crate::verify::Verify;
 use pv_base::{Files, Sink};
 use std::alloc::Global;
+use std::sync::Wait;
 use std::thread::Threads;
 use up_core::Core;
+use up_free::Gate;
 use updr_model::{IfStratified, OverModel};
 use updr_table::{More, Nothing, answer};
 use updr_told::{Stop, tell};
@@ -77,6 +81,56 @@ pub fn run_plain<R: Threads + Sync, F: Files, O: Sink, E: Sink>(
     Ending {
         status: outcome.number,
         core: outcome.left,
+    }
+}
+
+/// Serves the words of a command line, as [`run_plain`] does, and `updr` with `--free` besides: it
+/// searches by workers that run freely, each in a thread of its own, over one machine that they
+/// share.
+///
+/// The history then depends on which worker comes first, and with it the status and the report. But
+/// the history is legal and closed in every case, and the machine that is left shows what is printed,
+/// as in rounds. The workers pass the gate; they wait for one another, and the call owes no return.
+pub fn run<R: Threads + Wait + Sync, F: Files, O: Sink, E: Sink, G: Gate>(
+    rt: &R,
+    alloc: Global,
+    words: Vec<String>,
+    files: &mut F,
+    out: &mut O,
+    err: &mut E,
+    gate: &G,
+) -> Ending
+    ensures served { ¬ AsksFree (map string_bytes words.items)
+        → IsServed (map string_bytes words.items) (met
+        (outside F.contents F.faults F.refused files.old files.new)
+        (sunk O.written O.faults out.old out.new)
+        (sunk E.written E.faults err.old err.new)
+        result.status
+        result.core) }
+    ensures search { ¬ AsksFree (map string_bytes words.items)
+        → IsSearch (map string_bytes words.items) (met
+        (outside F.contents F.faults F.refused files.old files.new)
+        (sunk O.written O.faults out.old out.new)
+        (sunk E.written E.faults err.old err.new)
+        result.status
+        result.core) }
+    ensures free { AsksFree (map string_bytes words.items)
+        → IsFreelyServed (map string_bytes words.items) (met
+        (outside F.contents F.faults F.refused files.old files.new)
+        (sunk O.written O.faults out.old out.new)
+        (sunk E.written E.faults err.old err.new)
+        result.status
+        result.core) }
+{
+    match serve_free(rt, alloc, &words, files, gate) {
+        Some(end) => {
+            let outcome = tell(end, out, err);
+            Ending {
+                status: outcome.number,
+                core: outcome.left,
+            }
+        }
+        None => run_plain(rt, alloc, words, files, out, err),
     }
 }
 

@@ -2,8 +2,8 @@
 
 ghost use Rattle.std.specs.Prelude.{◌≡◌, IfOk};
 ghost use Rattle.up_machine.specs.Told.{Told as TellsVerdict};
-ghost use Rattle.up_rounds.specs.Courses.{IsRun};
 ghost use Rattle.updr_top.specs.OneStatus.{status_of};
+ghost use Rattle.updr_top.specs.Tellings.{IsFinished};
 
 use std::alloc::{AllocError, Global};
 use up_claims::Verdict;
@@ -28,7 +28,7 @@ pub fn status_of(verdict: &Verdict) -> Status
 
 /// The verdict of a machine whose run has come to its end.
 pub fn told_verdict(alloc: Global, meant: &Elaborated, core: &Core) -> Result<Verdict, AllocError>
-    requires { IsRun meant.now.sys core.now.order core.now.limits core.now }
+    requires { IsFinished meant.now.sys core.now.limits core.now }
     ensures { IfOk result (TellsVerdict meant.now.sys core.now.history) }
 {
     match core.verdict(alloc)? {

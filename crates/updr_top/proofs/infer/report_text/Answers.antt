@@ -10,7 +10,7 @@ write-requires c =
     let sys = c.args.meant.now.sys in
     let core = c.args.core.now in
     let names = c.requires.model.named in
-    let told = told_ranged sys core.limits core.history c.requires.ran.course.legal c.args.verdict c.requires.told c.requires.model.system c.stays_sound.ensures.in_range (c.if-not-is_narrow.ensures refl) in
+    let told = told_ranged sys core.limits core.history c.requires.finished.whole.legal c.args.verdict c.requires.told c.requires.model.system c.stays_sound.ensures.in_range (c.if-not-is_narrow.ensures refl) in
     record {
       named = record { sorts = names.sorts.one_each; symbols = names.symbols.one_each };
       ranged = record {
