@@ -7,7 +7,8 @@ use std::env;
 use std::io::ErrorKind;
 use std::process::ExitCode;
 use std::thread::Builder;
-use updr_top::{run_plain, tell_out_of_memory};
+use up_free::FreeGate;
+use updr_top::{run, tell_out_of_memory};
 
 /// How many bytes of stack the program has. Formulas are walked recursively, and a clause of a
 /// report of the greatest length may bind more than 100,000 variables, each a level of its formula.
@@ -33,7 +34,10 @@ fn main(rt: HostRuntime) -> ExitCode {
         let mut out = RealOut::new(rt.stdout());
         let mut err = RealErr::new(rt.stderr());
         let ending = match words_of(&rt) {
-            Ok(words) => run_plain(&rt, rt.alloc(), words, &mut files, &mut out, &mut err),
+            Ok(words) => {
+                let alloc = rt.alloc();
+                run(&rt, alloc, words, &mut files, &mut out, &mut err, &FreeGate)
+            }
             Err(AllocError) => tell_out_of_memory(&mut out, &mut err),
         };
         ending.status
