@@ -2,6 +2,7 @@
 use crate::case::{Answer, Expected, Extent};
 use crate::content::{Place, Texts};
 use pv_base::MemSink;
+use std::alloc::{AllocError, Global};
 use std::rt::Files;
 
 /// The most bytes that are shown of a line.
@@ -111,15 +112,24 @@ fn line_at(bytes: &[u8], at: usize, column: usize) -> &[u8] {
 }
 
 /// A line as it is shown, in quotes: shortened, and bytes that aren't printed by their numbers.
-fn shown<R: AllocGlobal>(rt: &R, line: &[u8]) -> anyhow::Result<String> {
-    let mut text = String::from_str(rt.alloc(), "\"")?;
-    for byte in line.iter().take(SHOWN) {
-        match byte {
-            b'\n' => text.push_str("\\n")?,
-            b' '..=b'~' => text.push(char::from(*byte))?,
-            _ => text.push_str(format!(in rt.alloc(); "\\x{byte:02x}")?.as_str())?,
-        }
-    }
-    text.push_str(if line.len() > SHOWN { "\".." } else { "\"" })?;
+fn shown<R: AllocGlobal>(rt: &R, line: &[u8]) -> Result<String, AllocError> {
+    let mut text = String::new(rt.alloc());
+    show(rt.alloc(), line, &mut text)?;
     Ok(text)
+}
+
+fn show(alloc: Global, line: &[u8], text: &mut String) -> Result<(), AllocError> {
+    text.push_str("\"")?;
+    for byte in line.iter().take(SHOWN) {
+        show_byte(alloc, *byte, text)?;
+    }
+    text.push_str(if line.len() > SHOWN { "\".." } else { "\"" })
+}
+
+fn show_byte(alloc: Global, byte: u8, text: &mut String) -> Result<(), AllocError> {
+    match byte {
+        b'\n' => text.push_str("\\n"),
+        b' '..=b'~' => text.push(char::from(byte)),
+        _ => text.push_str(format!(in alloc; "\\x{byte:02x}")?.as_str()),
+    }
 }

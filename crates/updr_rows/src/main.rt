@@ -18,6 +18,7 @@ use std::alloc::Global;
 use std::collections::BTreeSet;
 use std::process::ExitCode;
 use std::rt::Files;
+use std::sync::Wait;
 use std::thread::Threads;
 use std::{env, fs};
 
@@ -48,7 +49,7 @@ impl Report {
     }
 
     /// Runs a case, and prints its line.
-    fn run<R: Print + Files + Threads + Sync + AllocGlobal>(
+    fn run<R: Print + Files + Threads + Wait + Sync + AllocGlobal>(
         &mut self,
         rt: &R,
         case: &Case,
@@ -67,7 +68,7 @@ impl Report {
     }
 
     /// Runs the cases of a file.
-    fn run_file<R: Print + Files + Threads + Sync + AllocGlobal>(
+    fn run_file<R: Print + Files + Threads + Wait + Sync + AllocGlobal>(
         &mut self,
         rt: &R,
         path: &str,
@@ -75,19 +76,30 @@ impl Report {
         let Ok(text) = fs::read_to_string(rt, path) else {
             return self.differ(rt, path, "cannot be read");
         };
+        let items = read_items(rt.alloc(), path, text.as_str())?;
         let mut texts = Texts::new(rt.alloc());
-        for item in read_items(rt.alloc(), path, text.as_str())? {
-            match item {
-                Item::Text(text) => {
-                    if let Err(error) = texts.define(rt, text) {
-                        self.fail(rt, path, &error)?;
-                    }
-                }
-                Item::Case(case) => self.run(rt, &case, &mut texts)?,
-                Item::Fault(place, fault) => self.differ(rt, place.as_str(), fault.as_str())?,
-            }
+        for item in items {
+            self.run_item(rt, path, item, &mut texts)?;
         }
         Ok(())
+    }
+
+    /// Runs a case, or keeps a text.
+    fn run_item<R: Print + Files + Threads + Wait + Sync + AllocGlobal>(
+        &mut self,
+        rt: &R,
+        path: &str,
+        item: Item,
+        texts: &mut Texts,
+    ) -> anyhow::Result<()> {
+        match item {
+            Item::Text(text) => match texts.define(rt, text) {
+                Ok(()) => Ok(()),
+                Err(error) => self.fail(rt, path, &error),
+            },
+            Item::Case(case) => self.run(rt, &case, texts),
+            Item::Fault(place, fault) => self.differ(rt, place.as_str(), fault.as_str()),
+        }
     }
 }
 

@@ -35,19 +35,35 @@ pub fn read_items(alloc: Global, path: &str, text: &str) -> anyhow::Result<Vec<I
         open: Open::Nothing,
         content: Vec::new(alloc),
     };
-    for (index, line) in text.split('\n').enumerate() {
-        let number = index.saturating_add(1);
-        if let Err(error) = reader.take(line) {
-            let place = format!(in alloc; "{path}:{number}")?;
-            let fault = format!(in alloc; "{error}")?;
-            reader.items.push(Item::Fault(place, fault))?;
-        }
-    }
-    reader.end_case()?;
+    reader.take_all(path, text)?;
     Ok(reader.items)
 }
 
+/// A fault of a line.
+fn fault(alloc: Global, path: &str, line: usize, error: &anyhow::Error) -> anyhow::Result<Item> {
+    let place = format!(in alloc; "{path}:{line}")?;
+    let fault = format!(in alloc; "{error}")?;
+    Ok(Item::Fault(place, fault))
+}
+
 impl Reader {
+    /// Takes the lines of a file.
+    fn take_all(&mut self, path: &str, text: &str) -> anyhow::Result<()> {
+        for (index, line) in text.split('\n').enumerate() {
+            self.take_or_tell(path, index.saturating_add(1), line)?;
+        }
+        self.end_case()
+    }
+
+    /// Takes a line, or tells why it can't be read.
+    fn take_or_tell(&mut self, path: &str, number: usize, line: &str) -> anyhow::Result<()> {
+        if let Err(error) = self.take(line) {
+            let fault = fault(self.alloc, path, number, &error)?;
+            self.items.push(fault)?;
+        }
+        Ok(())
+    }
+
     /// Takes a line.
     fn take(&mut self, line: &str) -> anyhow::Result<()> {
         if line.is_empty() || line.starts_with('#') {
@@ -276,29 +292,36 @@ fn make_room(case: &mut Case, rest: &str) -> anyhow::Result<()> {
 /// Takes a line about the answer that is wanted, and answers which content it begins.
 fn answer_heading(case: &mut Case, word: &str, rest: &str) -> anyhow::Result<Open> {
     if word == "or" {
-        anyhow::ensure!(rest.is_empty(), "or stands alone in its line");
-        case.answers.push(empty_answer())?;
-        return Ok(Open::Nothing);
+        return begin_answer(case, rest);
     }
-    let Some(answer) = case.answers.last_mut() else {
-        anyhow::bail!("no answer has begun");
-    };
-    match word {
-        "status" => {
-            anyhow::ensure!(answer.status.is_none(), "a second status");
-            answer.status = Some(rest.parse::<u8>()?);
-            Ok(Open::Nothing)
-        }
-        "out" => {
-            anyhow::ensure!(answer.out.is_none(), "a second out");
-            Ok(Open::Out(extent(rest)?))
-        }
-        "err" => {
-            anyhow::ensure!(answer.err.is_none(), "a second err");
-            Ok(Open::Err(extent(rest)?))
-        }
+    match (word, case.answers.last_mut()) {
+        ("status", Some(answer)) => want_status(answer, rest),
+        ("out", Some(answer)) => want_out(answer, rest),
+        ("err", Some(answer)) => want_err(answer, rest),
         _ => anyhow::bail!("an unknown line"),
     }
+}
+
+fn begin_answer(case: &mut Case, rest: &str) -> anyhow::Result<Open> {
+    anyhow::ensure!(rest.is_empty(), "or stands alone in its line");
+    case.answers.push(empty_answer())?;
+    Ok(Open::Nothing)
+}
+
+fn want_status(answer: &mut Answer, rest: &str) -> anyhow::Result<Open> {
+    anyhow::ensure!(answer.status.is_none(), "a second status");
+    answer.status = Some(rest.parse::<u8>()?);
+    Ok(Open::Nothing)
+}
+
+fn want_out(answer: &Answer, rest: &str) -> anyhow::Result<Open> {
+    anyhow::ensure!(answer.out.is_none(), "a second out");
+    Ok(Open::Out(extent(rest)?))
+}
+
+fn want_err(answer: &Answer, rest: &str) -> anyhow::Result<Open> {
+    anyhow::ensure!(answer.err.is_none(), "a second err");
+    Ok(Open::Err(extent(rest)?))
 }
 
 fn extent(rest: &str) -> anyhow::Result<Extent> {
